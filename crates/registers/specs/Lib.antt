@@ -1,0 +1,4 @@
+pub mod Address
+pub mod Bits
+pub mod Aliases
+pub mod Writes
