@@ -1,0 +1,2 @@
+mod Settled
+mod Noticed
