@@ -26,11 +26,9 @@ mod tests {
     use panel::Panel;
     use panel::PanelPeripheral;
     use peripheral::FaultDebug;
-    use peripheral::FaultDisplay;
-    use peripheral::Layer;
     use peripheral::Pair;
     use peripheral::PairPeripheral;
-    use peripheral::Refusal;
+    use peripheral::regroup;
     use std::test::*;
 
     const LATCH: u32 = 0x1B00_1010;
@@ -76,7 +74,7 @@ mod tests {
     fn pairs_of_pairs() -> Result<(), Fail> {
         let mut front = 7;
         let mut rear = 9;
-        let mut board = Pair {
+        let mut board = regroup(Pair {
             first: Pair {
                 first: Gpio::new(),
                 second: Panel::new(&mut front),
@@ -85,7 +83,7 @@ mod tests {
                 first: Panel::new(&mut rear),
                 second: Gpio::new(),
             },
-        };
+        });
         check_eq(exchange(&mut board, LAMPS, 5)?, 7)?;
         let mut words = [1; 6];
         check_eq(board.outputs(&mut words), 6)?;
@@ -93,19 +91,5 @@ mod tests {
         board.reset();
         check_eq(front, 0)?;
         check_eq(rear, 0)
-    }
-
-    #[test]
-    fn faults_in_words(rt: LibcRuntime) -> Result<(), Fail> {
-        let fault = Fault {
-            refusal: Refusal::NoRegister,
-            layer: Layer::Register,
-            place: 0x1B00_1200,
-        };
-        let words = format!(rt.alloc(), "{fault}")?;
-        check_eq(
-            words.as_str(),
-            "no register stands at address 0x1B001200 (refusal 3, register)",
-        )
     }
 }

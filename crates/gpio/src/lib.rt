@@ -22,6 +22,7 @@ mod ports;
 // What a change raises: interrupt 15, as bit 15 - 8.
 const CHANGE: u16 = 0x80;
 
+// Both ports, and INT_STATUS, in which bit i tells that a watched pin of port i changed.
 #[derive(Clone, Copy)]
 pub struct Gpio {
     first: Port,

@@ -2,12 +2,10 @@
 // peripherals follow its pattern.
 ghost use denote.Ref.{name, now};
 ghost use mathlib.Core.Path.{_≡_, refl};
-ghost use mathlib.Core.List.{[], _∷_};
-ghost use Prim.Native.Nat.{ℕ};
+ghost use mathlib.Core.List.{[]};
 ghost use Rattle.registers.specs.Address.{wordAddress};
 ghost use Rattle.peripheral.specs.Bus as bus;
 ghost use Rattle.peripheral.specs.Bus.{told};
-ghost use Rattle.peripheral.specs.Model.{Quiet, Largest};
 ghost use Rattle.panel.specs.Lamps.{owns, registerAt, encode, panelModel, panelKeeps};
 use peripheral::Fault;
 use peripheral::Peripheral;

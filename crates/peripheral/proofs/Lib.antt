@@ -4,3 +4,4 @@ pub mod Sides
 pub mod Stored
 pub mod Found
 mod Fills
+mod Nesting

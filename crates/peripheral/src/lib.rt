@@ -15,3 +15,4 @@ pub use faults::Refusal;
 pub use interface::Peripheral;
 pub use pairs::Pair;
 pub use pairs::PairPeripheral;
+pub use pairs::regroup;

@@ -1,6 +1,8 @@
 // Two peripherals as one.
+ghost use mathlib.Core.Path.{_≡_};
 ghost use mathlib.Core.List.{_++_};
 ghost use Prim.Native.Nat.{min};
+ghost use Rattle.peripheral.specs.Model.{Same};
 ghost use Rattle.peripheral.specs.Pair.{pair};
 ghost use Rattle.peripheral.specs.PairKeeps.{pairKeeps, pairSized};
 use crate::interface::Peripheral;
@@ -13,6 +15,27 @@ use registers::Lanes;
 pub struct Pair<P, Q> {
     pub first: P,
     pub second: Q,
+}
+
+// The same three peripherals, nested the other way round, which makes no difference.
+pub fn regroup<P: Peripheral, Q: Peripheral, R: Peripheral>(
+    board: Pair<Pair<P, Q>, R>,
+) -> Pair<P, Pair<Q, R>>
+    ensures parts { λ r. ⌜ (r .first ≡ board .first .first) × (r .second .first ≡ board .first .second) × (r .second .second ≡ board .second) ⌝ }
+    ensures same { λ r. ⌜ Same (pair (pair (P·Peripheral .model (board .first .first)) (Q·Peripheral .model (board .first .second))) (R·Peripheral .model (board .second))) (pair (P·Peripheral .model (r .first)) (pair (Q·Peripheral .model (r .second .first)) (R·Peripheral .model (r .second .second)))) ⌝ }
+    ensures state { λ r. ⌜ (P·Peripheral .state (board .first .first) ++ Q·Peripheral .state (board .first .second)) ++ R·Peripheral .state (board .second) ≡ P·Peripheral .state (r .first) ++ (Q·Peripheral .state (r .second .first) ++ R·Peripheral .state (r .second .second)) ⌝ }
+{
+    let Pair {
+        first: Pair { first, second },
+        second: third,
+    } = board;
+    Pair {
+        first,
+        second: Pair {
+            first: second,
+            second: third,
+        },
+    }
 }
 
 pub impl<P: Peripheral, Q: Peripheral> Peripheral for Pair<P, Q> as PairPeripheral {

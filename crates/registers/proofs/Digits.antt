@@ -12,52 +12,35 @@ use Rattle.registers.specs.Bits.{bit, without}
 abbrev pub differs : Bool → Bool → Bool
 differs a b = cond b (not a) a
 
--- at the two digits
-and-digit : (x y : ℕ) → x < 2 → y < 2 → eqb (bitAnd x y) 1 ≡ (eqb x 1 && eqb y 1)
-and-digit zero zero h k = refl
-and-digit zero (suc zero) h k = refl
-and-digit (suc zero) zero h k = refl
-and-digit (suc zero) (suc zero) h k = refl
-and-digit zero (suc (suc y)) h k = let w : ⊥ = omega arith in absurd w
-and-digit (suc zero) (suc (suc y)) h k = let w : ⊥ = omega arith in absurd w
-and-digit (suc (suc x)) y h k = let w : ⊥ = omega arith in absurd w
+-- An operation that goes digit by digit, and what it makes of two digits: so it goes at any bit.
+module _ (op : ℕ → ℕ → ℕ) (f : Bool → Bool → Bool)
+    (high : (a b k : ℕ) → op a b / 2 ^ k ≡ op (a / 2 ^ k) (b / 2 ^ k))
+    (low : (a b k : ℕ) → op a b % 2 ^ k ≡ op (a % 2 ^ k) (b % 2 ^ k))
+    (oo : eqb (op 0 0) 1 ≡ f false false) (oi : eqb (op 0 1) 1 ≡ f false true)
+    (io : eqb (op 1 0) 1 ≡ f true false) (ii : eqb (op 1 1) 1 ≡ f true true) where
+  digit : (x y : ℕ) → x < 2 → y < 2 → eqb (op x y) 1 ≡ f (eqb x 1) (eqb y 1)
+  digit zero zero h k = oo
+  digit zero (suc zero) h k = oi
+  digit (suc zero) zero h k = io
+  digit (suc zero) (suc zero) h k = ii
+  digit zero (suc (suc y)) h k = let w : ⊥ = omega arith in absurd w
+  digit (suc zero) (suc (suc y)) h k = let w : ⊥ = omega arith in absurd w
+  digit (suc (suc x)) y h k = let w : ⊥ = omega arith in absurd w
 
-or-digit : (x y : ℕ) → x < 2 → y < 2 → eqb (bitOr x y) 1 ≡ (eqb x 1 || eqb y 1)
-or-digit zero zero h k = refl
-or-digit zero (suc zero) h k = refl
-or-digit (suc zero) zero h k = refl
-or-digit (suc zero) (suc zero) h k = refl
-or-digit zero (suc (suc y)) h k = let w : ⊥ = omega arith in absurd w
-or-digit (suc zero) (suc (suc y)) h k = let w : ⊥ = omega arith in absurd w
-or-digit (suc (suc x)) y h k = let w : ⊥ = omega arith in absurd w
+  bit-by-digit : (k a b : ℕ) → bit k (op a b) ≡ f (bit k a) (bit k b)
+  bit-by-digit k a b =
+      ap (λ n. eqb (n % 2) 1) (high a b k)
+      ∙ ap (λ n. eqb n 1) (low (a / 2 ^ k) (b / 2 ^ k) 1)
+      ∙ digit (a / 2 ^ k % 2) (b / 2 ^ k % 2) (omega arith) (omega arith)
 
-xor-digit : (x y : ℕ) → x < 2 → y < 2 → eqb (bitXor x y) 1 ≡ differs (eqb x 1) (eqb y 1)
-xor-digit zero zero h k = refl
-xor-digit zero (suc zero) h k = refl
-xor-digit (suc zero) zero h k = refl
-xor-digit (suc zero) (suc zero) h k = refl
-xor-digit zero (suc (suc y)) h k = let w : ⊥ = omega arith in absurd w
-xor-digit (suc zero) (suc (suc y)) h k = let w : ⊥ = omega arith in absurd w
-xor-digit (suc (suc x)) y h k = let w : ⊥ = omega arith in absurd w
-
--- and so at any bit
 pub bit-and : (k a b : ℕ) → bit k (bitAnd a b) ≡ (bit k a && bit k b)
-bit-and k a b =
-    ap (λ (n : ℕ). eqb (n % 2) 1) (and-shr a b k)
-    ∙ ap (λ (n : ℕ). eqb n 1) (and-mod (a / 2 ^ k) (b / 2 ^ k) 1)
-    ∙ and-digit (a / 2 ^ k % 2) (b / 2 ^ k % 2) (omega arith) (omega arith)
+bit-and = bit-by-digit bitAnd _&&_ and-shr and-mod refl refl refl refl
 
 pub bit-or : (k a b : ℕ) → bit k (bitOr a b) ≡ (bit k a || bit k b)
-bit-or k a b =
-    ap (λ (n : ℕ). eqb (n % 2) 1) (or-shr a b k)
-    ∙ ap (λ (n : ℕ). eqb n 1) (or-mod (a / 2 ^ k) (b / 2 ^ k) 1)
-    ∙ or-digit (a / 2 ^ k % 2) (b / 2 ^ k % 2) (omega arith) (omega arith)
+bit-or = bit-by-digit bitOr _||_ or-shr or-mod refl refl refl refl
 
 pub bit-xor : (k a b : ℕ) → bit k (bitXor a b) ≡ differs (bit k a) (bit k b)
-bit-xor k a b =
-    ap (λ (n : ℕ). eqb (n % 2) 1) (xor-shr a b k)
-    ∙ ap (λ (n : ℕ). eqb n 1) (xor-mod (a / 2 ^ k) (b / 2 ^ k) 1)
-    ∙ xor-digit (a / 2 ^ k % 2) (b / 2 ^ k % 2) (omega arith) (omega arith)
+bit-xor = bit-by-digit bitXor differs xor-shr xor-mod refl refl refl refl
 
 -- a test that passes at each number below n
 abbrev pub every : ℕ → (ℕ → Bool) → Bool
