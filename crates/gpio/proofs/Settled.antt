@@ -1,5 +1,5 @@
 -- A first clock settles the pins. Assumes nothing.
-use mathlib.Core.Path.{_≡_, refl, ap, ap₂, _∙_}
+use mathlib.Core.Path.{_≡_, ap, ap₂, _∙_}
 use mathlib.Core.Bool.{cond, not, _||_}
 use Prim.Native.Nat.{ℕ}
 use lib.Bits.{bitAnd, bitOr, xor-self, or-zero-r}

@@ -4,7 +4,6 @@ use Prim.Native.Nat.{ℕ, _/_, _%_}
 use lib.Dec.{eqb, ltb, leb}
 use Rattle.std.specs.declared.option.Option.{Option}
 use Rattle.std.specs.declared.option.Option.the-variants.{Some, None}
-use Rattle.gpio.specs.declared.map.PortRegister.{PortRegister}
 use Rattle.gpio.specs.declared.map.PortRegister.the-variants.{Pins, Latch, Dir, Cnr, Cnf, CnState}
 use Rattle.gpio.specs.declared.map.Register.{Register}
 use Rattle.gpio.specs.declared.map.Register.the-variants.{OfPort, IntStatus}

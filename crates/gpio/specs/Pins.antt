@@ -66,7 +66,8 @@ word p Cnr = p .cnr
 word p Cnf = p .cnf
 word p CnState = p .«cn_state»
 
--- a write, by the number of its alias, of a value under the bits that it may change: one to the pins acts on the latch
+-- A write, by the number of its alias, of a value under the bits that it may change. One to the pins acts on the latch.
+-- CN_STATE is clear-only, and so is INT_STATUS; clearing one leaves the other.
 abbrev pub latched : Port → ℕ → Port
 latched p w = record { latch = w; dir = p .dir; cnr = p .cnr; cnf = p .cnf; «cn_state» = p .«cn_state»; input = p .input; before = p .before }
 

@@ -1,8 +1,8 @@
 -- What a pair's rules give at the states of its two sides. Assumes nothing.
 use mathlib.Core.Path.{_≡_, refl, sym, ap, ap₂, _∙_}
-use mathlib.Core.Bool.{Bool, true, false, cond, _||_}
+use mathlib.Core.Bool.{Bool, true, false}
 use mathlib.Core.List.{List, _++_}
-use Prim.Native.Nat.{ℕ, zero, suc, _<_, min}
+use Prim.Native.Nat.{ℕ, zero, suc, min}
 use native.Mathlib.Omega.{arith}
 use lib.Bits.{bitOr}
 use lib.ListN.{length}
@@ -10,8 +10,6 @@ use lib.Seq.{take-at, drop-at}
 use Rattle.std.specs.Options.{mapped}
 use Rattle.std.specs.declared.option.Option.{Option}
 use Rattle.std.specs.declared.option.Option.the-variants.{Some, None}
-use Rattle.std.specs.declared.result.Result.{Result}
-use Rattle.faults.specs.Faults.{Code}
 use Rattle.registers.specs.Address.{wordAddress}
 use Rattle.peripheral.specs.Model.{Model, Keeps, Quiet, steps, union, clocks, raises}
 use Rattle.peripheral.specs.Bus.{located, readAt, writeAt, done, kept}
@@ -38,7 +36,7 @@ module _ (m n : Model) (s t : List ℕ) (h : length s ≡ m .size) where
   second-part = drop-at s t (m .size) h
 
   -- a rule that goes to both sides
-  pub split : {X Y Z : Type 0} (join : X → Y → Z) (f : List ℕ → X) (g : List ℕ → Y) → join (f (firstPart m (s ++ t))) (g (secondPart m (s ++ t))) ≡ join (f s) (g t)
+  split : {X Y Z : Type 0} (join : X → Y → Z) (f : List ℕ → X) (g : List ℕ → Y) → join (f (firstPart m (s ++ t))) (g (secondPart m (s ++ t))) ≡ join (f s) (g t)
   split join f g = ap₂ join (ap f first-part) (ap g second-part)
 
   module _ (a : ℕ) (e : m .claims (wordAddress a) ≡ true) where

@@ -3,7 +3,7 @@ use mathlib.Core.Path.{_≡_, refl, sym, ap, ap₂, _∙_}
 use mathlib.Core.Bool.{Bool, true, false, not, cond, _&&_, _||_}
 use Prim.Native.Nat.{ℕ, zero, suc, _/_, _<_}
 use native.Mathlib.Omega.{arith}
-use lib.Bits.{bitAnd, bitOr, bitXor}
+use lib.Bits.{bitAnd}
 use Rattle.registers.specs.Address.{wordAddress}
 use Rattle.registers.specs.Aliases.{aliasAt}
 use Rattle.registers.specs.Bits.{bit, without, laneBits}

@@ -1,6 +1,5 @@
 // The four addresses of a register.
 ghost use mathlib.Core.Path.{_≡_};
-ghost use Prim.Native.Nat.{ℕ, _<_};
 ghost use Rattle.registers.specs.Aliases.{aliasNumber, aliasAt};
 ghost use Rattle.registers.specs.Bits as spec;
 ghost use Rattle.registers.specs.Writes.{written, cleared, shown, EachBit, writtenBit, clearedBit};

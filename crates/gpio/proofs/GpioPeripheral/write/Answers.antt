@@ -1,4 +1,4 @@
-use mathlib.Core.Path.{_≡_, refl, sym, ap, _∙_}
+use mathlib.Core.Path.{refl, sym, ap, _∙_}
 use Rattle.registers.specs.Address.{wordAddress}
 use Rattle.registers.specs.Aliases.{aliasAt}
 use Rattle.registers.specs.Bits.{laneBits}

@@ -1,5 +1,4 @@
 use borrow.Author.Needs.{needs}
-use lib.Bits.{bitAnd, bitOr, bitXor}
 use Rattle.registers.specs.Aliases.{aliasNumber}
 use Rattle.registers.proofs.Accesses.{by-cleared}
 use Rattle.registers.proofs.aliases.Alias.clear.Needs as need
