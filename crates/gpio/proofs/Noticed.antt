@@ -4,16 +4,14 @@ use mathlib.Core.Bool.{Bool, true, false, not, cond, _&&_, _||_}
 use mathlib.Core.Logic.{_⊎_, inl, inr}
 use Prim.Native.Nat.{ℕ, zero, suc, _/_, _%_, _^_, _<_}
 use native.Mathlib.Nat.{zero-div, div-one, pow-suc}
-use native.Mathlib.Numerals.{one-add}
 use native.Mathlib.Omega.{arith}
 use lib.Bits.{bitAnd, bitOr, bitXor}
 use lib.Dec.{eqb}
 use Rattle.std.specs.Orderings.{Decides}
-use Rattle.std.proofs.shelf.Bits.{shr-shr}
 use Rattle.std.proofs.shelf.Tests.{eq-eqb, ne-eqb, eqb-true, eqb-false, cases-eq, both-ways, not-true, not-from-false}
 use Rattle.std.proofs.shelf.Ways.{decides-at, decides-or}
 use Rattle.registers.specs.Bits.{bit}
-use Rattle.registers.proofs.Digits.{bit-and, bit-or, bit-xor, differs}
+use Rattle.registers.proofs.Digits.{bit-and, bit-or, bit-xor, bit-half, differs}
 use Rattle.registers.proofs.Accesses.{by-written}
 use Rattle.gpio.specs.declared.Gpio.{Gpio}
 use Rattle.gpio.specs.declared.ports.Port.{Port}
@@ -47,9 +45,6 @@ zero-bit k e = omega (arith, eqb-true (0 / 2 ^ k % 2) 1 e, zero-div (2 ^ k))
 
 odd-or-half : (w : ℕ) → (w ≡ 0 → ⊥) → (w % 2 ≡ 1) ⊎ (w / 2 ≡ 0 → ⊥)
 odd-or-half w z = elim (cases-eq (w % 2) 1) [ inl e ↦ inl e | inr d ↦ inr (λ e. z (omega arith)) ]
-
-bit-half : (k w : ℕ) → bit k (w / 2) ≡ bit (suc k) w
-bit-half k w = ap (λ x. eqb (x % 2) 1) (shr-shr w 1 k ∙ ap (λ j. w / 2 ^ j) (one-add k))
 
 some-bit : (n w : ℕ) → w < 2 ^ n → (w ≡ 0 → ⊥) → (k : ℕ) × (k < n) × (bit k w ≡ true)
 some-bit zero w h z = absurd (z (omega arith))

@@ -1,10 +1,12 @@
 -- A register that is found, or not, and what is made of it. Assumes nothing.
-use mathlib.Core.Path.{_≡_, sym, ap}
+use mathlib.Core.Path.{_≡_, sym, ap, subst}
 use mathlib.Core.Bool.{Bool, true, false}
 use mathlib.Core.List.{List}
 use Prim.Native.Nat.{ℕ}
 use native.Mathlib.Omega.{arith}
+use Rattle.std.specs.Options as options
 use Rattle.std.specs.Options.{mapped}
+use Rattle.std.specs.Results as results
 use Rattle.std.specs.Results.{ErrBy}
 use Rattle.std.specs.declared.option.Option.{Option}
 use Rattle.std.specs.declared.option.Option.the-variants.{Some, None}
@@ -40,6 +42,14 @@ module _ {X Y : Type 0} (f : X → Y) (encode : Y → List ℕ) (a : ℕ) (b : B
 
   pub missing-done : (c : Code) → Err c ≡ located a b o → done (located a b (mapped encode (mapped f o))) ≡ Err c
   missing-done c e = ap done (missing encode a b (mapped f o) c (sym (missing f a b o c e)))
+
+-- what holds of every register holds of one that is found
+pub found-with : {X : Type 0} (P : X → Type 0) (a : ℕ) (b : Bool) (o : Option X) (r : Result X Fault) → told r ≡ located a b o → options.Cases o (Unit {0}) P
+    → results.Cases r P (λ _. Unit {0})
+found-with P a b o (Err f) e p = tt
+found-with P a true (Some x) (Ok y) e p = let q : x ≡ y = cc in subst P q p
+found-with P a true None (Ok y) e p = let z : _≡_ {A = ℕ} 0 1 = cc in let w : ⊥ = omega arith in absurd w
+found-with P a false o (Ok y) e p = let z : _≡_ {A = ℕ} 0 1 = cc in let w : ⊥ = omega arith in absurd w
 
 -- the fault that `?` hands on
 pub told-exit : {T : Type 0} (r : Result T Fault) (f : Fault) → ErrBy r (λ e. e ≡ f) → told r ≡ Err (codeOf f)

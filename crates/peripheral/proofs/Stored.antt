@@ -2,7 +2,10 @@
 use mathlib.Core.Path.{_≡_, refl, sym, ap, _∙_}
 use Prim.Native.Nat.{ℕ, zero, suc}
 use lib.Bits.{bitOr}
+use Rattle.std.specs.Options.{mapped}
+use Rattle.registers.specs.Address.{wordAddress}
 use Rattle.peripheral.specs.Model.{Idle, Quiet, steps, union, clocks, raises}
+use Rattle.peripheral.specs.Bus.{located, readAt, writeAt}
 use Rattle.peripheral.specs.Rules.{Rules, Coded, modelOf}
 use Rattle.peripheral.proofs.Steps.{steps-keep}
 
@@ -34,3 +37,11 @@ module _ {U : Type 0} (r : Rules U) {Good : U → Type 0} (k : Coded r Good) whe
   pub idle-of : (u : U) (n : ℕ) → Good u → Quiet (modelOf r) (r .encode u) n → Idle (r .clock) (r .raised) (r .outputs) u n
   idle-of u n g h i l =
       (sym (seen-of (r .raised) i u g) ∙ h i l .0, sym (seen-of (r .outputs) (suc i) u g) ∙ h i l .1 ∙ ap (r .outputs) (k .back u g))
+
+  -- what the model answers on the bus
+  pub read-of : (u : U) (a : ℕ) → Good u → readAt (modelOf r) (r .encode u) a ≡ located a (r .claims (wordAddress a)) (r .read u (wordAddress a))
+  read-of u a g = ap (λ w. located a (r .claims (wordAddress a)) (r .read w (wordAddress a))) (k .back u g)
+
+  pub write-of : (u : U) (a v l : ℕ) → Good u
+      → writeAt (modelOf r) (r .encode u) a v l ≡ located a (r .claims (wordAddress a)) (mapped (r .encode) (r .write u (wordAddress a) v l))
+  write-of u a v l g = ap (λ w. located a (r .claims (wordAddress a)) (mapped (r .encode) (r .write w (wordAddress a) v l))) (k .back u g)

@@ -1,10 +1,12 @@
--- The bits of a conjunction, a disjunction, a difference and a complement. Assumes nothing.
+-- The bits of a conjunction, a disjunction, a difference, a complement and a half. Assumes nothing.
 use mathlib.Core.Path.{_≡_, refl, ap, _∙_}
 use mathlib.Core.Bool.{Bool, true, false, not, cond, _&&_, _||_}
 use Prim.Native.Nat.{ℕ, zero, suc, _-_, _/_, _%_, _^_, _<_}
+use native.Mathlib.Numerals.{one-add}
 use native.Mathlib.Omega.{arith}
 use lib.Bits.{bitAnd, bitOr, bitXor, and-comm, and-mask, xor-add-and, and-shr, or-shr, xor-shr, and-mod, or-mod, xor-mod}
 use lib.Dec.{eqb}
+use Rattle.std.proofs.shelf.Bits.{shr-shr}
 use Rattle.std.proofs.shelf.Ways.{decides-below-and}
 use Rattle.registers.specs.Bits.{bit, without}
 
@@ -41,6 +43,10 @@ bit-or = bit-by-digit bitOr _||_ or-shr or-mod refl refl refl refl
 
 pub bit-xor : (k a b : ℕ) → bit k (bitXor a b) ≡ differs (bit k a) (bit k b)
 bit-xor = bit-by-digit bitXor differs xor-shr xor-mod refl refl refl refl
+
+-- the bits of a number's half
+pub bit-half : (k w : ℕ) → bit k (w / 2) ≡ bit (suc k) w
+bit-half k w = ap (λ x. eqb (x % 2) 1) (shr-shr w 1 k ∙ ap (λ j. w / 2 ^ j) (one-add k))
 
 -- a test that passes at each number below n
 abbrev pub every : ℕ → (ℕ → Bool) → Bool

@@ -1,4 +1,4 @@
-// A board under test: its peripherals, and how many clocks have passed.
+// A board: its peripherals, and how many clocks have passed.
 ghost use mathlib.Core.Path.{_≡_};
 ghost use Rattle.peripheral.specs.Bus.{writeAt, kept};
 ghost use Rattle.peripheral.specs.Model as model;
