@@ -1,0 +1,2 @@
+pub mod Linear
+pub mod Entries
