@@ -132,11 +132,11 @@ number-one : (b : Bool) → number b ≡ 1 → b ≡ true
 number-one true e = refl
 number-one false e = let w : ⊥ = omega arith in absurd w
 
-calm-running : (t : Timer) → running t ≡ true → calm t ≡ limit t - 1 - base t
+pub calm-running : (t : Timer) → running t ≡ true → calm t ≡ limit t - 1 - base t
 unfolding calm
 calm-running t r = cond-true (running t) (limit t - 1 - base t) 4294967295 r
 
-calm-stopped : (t : Timer) → running t ≡ false → calm t ≡ 4294967295
+pub calm-stopped : (t : Timer) → running t ≡ false → calm t ≡ 4294967295
 unfolding calm
 calm-stopped t r = cond-false (running t) (limit t - 1 - base t) 4294967295 r
 
