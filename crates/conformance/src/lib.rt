@@ -29,11 +29,15 @@ mod tests {
     use peripheral::Pair;
     use peripheral::PairPeripheral;
     use peripheral::regroup;
+    use ram::Ram;
+    use ram::RamPeripheral;
     use std::test::*;
 
     const LATCH: u32 = 0x1B00_1010;
 
     const LAMPS: u32 = 0x1B00_8000;
+
+    const RAM: u32 = 0x1000_0000;
 
     // Bytes whose lane is off stay; the aliases read 0; INVERT at PORT inverts the latch, whatever the pins are.
     #[test]
@@ -91,5 +95,18 @@ mod tests {
         board.reset();
         check_eq(front, 0)?;
         check_eq(rear, 0)
+    }
+
+    // Words go into the host's bytes, the lowest byte first. Of ten bytes eight are used; the spare ones stay.
+    #[test]
+    fn lent_bytes() -> Result<(), Fail> {
+        let mut bytes = [0xEE; 10];
+        let mut ram = Ram::new(&mut bytes);
+        check_eq(exchange(&mut ram, RAM + 4, 0x1234_5678)?, 0xEEEE_EEEE)?;
+        check(ram.read(RAM + 8).is_err())?;
+        check_eq(
+            bytes,
+            [0xEE, 0xEE, 0xEE, 0xEE, 0x78, 0x56, 0x34, 0x12, 0xEE, 0xEE],
+        )
     }
 }

@@ -16,7 +16,7 @@ use Rattle.timers.specs.Timer.{number, running, limit, base, ticksIn, ticksWit
 use Rattle.timers.specs.Pwm.{off, enabled, timerOf, loaded, high}
 use Rattle.timers.specs.Unit.{Bank, pwmAt, clocked, output}
 use Rattle.timers.specs.Rules.{Shaped}
-use Rattle.timers.specs.Law.{highOf, Duty}
+use Rattle.timers.specs.Law.{highOf, timerBy, Duty}
 use Rattle.timers.proofs.Counting.{limit-pos, steps-some, ticks-running}
 use Rattle.timers.proofs.Banks.{timerOf-map}
 use Rattle.timers.proofs.Modules.{steps-idle}
@@ -106,9 +106,9 @@ highs-steady l c v x h e =
     highs-later l c v x l (omega arith) ∙ ap (λ w. min v l - min v c + w) b ∙ sub-add-cancel k
 
 module _ (u : Bank) (shaped : Shaped u) (i : ℕ) (six : i < 6) (on : enabled (pwmAt u i) ≡ true)
-    (r : running (timerOf (u .timers) (pwmAt u i)) ≡ true) (below : timerOf (u .timers) (pwmAt u i) .count < limit (timerOf (u .timers) (pwmAt u i))) where
+    (r : running (timerBy u i) ≡ true) (below : timerBy u i .count < limit (timerBy u i)) where
   abbrev t : Timer
-  t = timerOf (u .timers) (pwmAt u i)
+  t = timerBy u i
 
   -- the output after k clocks
   bit-after : (k : ℕ) → bit i (output (steps clocked k u)) ≡ ltb (steps timer.clocked k t .count) (cond (ticksWithin k t) (pwmAt u i .«next_value») (pwmAt u i .value))
@@ -141,11 +141,11 @@ module _ (u : Bank) (shaped : Shaped u) (i : ℕ) (six : i < 6) (on : enabled (p
 
 pub duty : (u : Bank) → Shaped u → Duty u
 duty u shaped = record {
-  whole = λ i six on r z.
-      let t = timerOf (u .timers) (pwmAt u i) in
+  whole = λ i p z.
+      let t = timerBy u i in
       let below : t .count < limit t = omega (arith, limit-pos t) in
-      high-so-far u shaped i six on r below (limit t) (omega arith) ∙ highs-whole (limit t) (t .count) (pwmAt u i .value) (pwmAt u i .«next_value») z;
-  steady = λ i six on r below e.
-      let t = timerOf (u .timers) (pwmAt u i) in
-      high-so-far u shaped i six on r below (limit t) (omega arith) ∙ highs-steady (limit t) (t .count) (pwmAt u i .value) (pwmAt u i .«next_value») below e;
+      high-so-far u shaped i (p .0) (p .1) (p .2) below (limit t) (omega arith) ∙ highs-whole (limit t) (t .count) (pwmAt u i .value) (pwmAt u i .«next_value») z;
+  steady = λ i p below e.
+      let t = timerBy u i in
+      high-so-far u shaped i (p .0) (p .1) (p .2) below (limit t) (omega arith) ∙ highs-steady (limit t) (t .count) (pwmAt u i .value) (pwmAt u i .«next_value») below e;
 }

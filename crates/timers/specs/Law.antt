@@ -6,6 +6,7 @@ use Prim.Native.Nat.{ℕ, zero, suc, _+_, _/_, _%_, _<_, min}
 use lib.Dec.{ltb}
 use Rattle.registers.specs.Bits.{bit}
 use Rattle.peripheral.specs.Model.{steps}
+use Rattle.timers.specs.declared.timer.Timer.{Timer}
 use Rattle.timers.specs.Timer.{number, running, limit, base, counted, ticks}
 use Rattle.timers.specs.Pwm.{enabled, timerOf}
 use Rattle.timers.specs.Unit.{Bank, timerAt, pwmAt, clocked, output}
@@ -37,12 +38,20 @@ pub record Counts (old : Bank) (n : ℕ) (new : Bank) (mask : ℕ) : Type 0 wher
   -- interrupt 11 is raised exactly when some timer ticks, and no other ever is
   pub raise : ((mask ≡ 8) × SomeTick n old) ⊎ ((mask ≡ 0) × (SomeTick n old → ⊥))
 
--- Over a whole period of a running timer an enabled module is high for the lesser of VALUE and PERIOD clocks: from
--- tick to tick whatever NEXT_VALUE is, and from any COUNT below PERIOD where it is VALUE.
+-- the timer that module i runs on
+abbrev pub timerBy : Bank → ℕ → Timer
+timerBy u i = timerOf (u .timers) (pwmAt u i)
+
+-- module i is enabled, and its timer runs
+abbrev pub Pulses : Bank → ℕ → Type 0
+Pulses u i = (i < 6) × (enabled (pwmAt u i) ≡ true) × (running (timerBy u i) ≡ true)
+
+-- of the next PERIOD clocks, output i is high in the lesser of VALUE and PERIOD
+abbrev pub HighByValue : Bank → ℕ → Type 0
+HighByValue u i = highOf i (limit (timerBy u i)) u ≡ min (pwmAt u i .value) (limit (timerBy u i))
+
+-- So it is over any whole period: from tick to tick whatever NEXT_VALUE is, and from any COUNT below PERIOD where it
+-- is VALUE.
 pub record Duty (u : Bank) : Type 0 where
-  pub whole : (i : ℕ) → i < 6 → enabled (pwmAt u i) ≡ true → running (timerOf (u .timers) (pwmAt u i)) ≡ true
-      → timerOf (u .timers) (pwmAt u i) .count ≡ 0
-      → highOf i (limit (timerOf (u .timers) (pwmAt u i))) u ≡ min (pwmAt u i .value) (limit (timerOf (u .timers) (pwmAt u i)))
-  pub steady : (i : ℕ) → i < 6 → enabled (pwmAt u i) ≡ true → running (timerOf (u .timers) (pwmAt u i)) ≡ true
-      → timerOf (u .timers) (pwmAt u i) .count < limit (timerOf (u .timers) (pwmAt u i)) → pwmAt u i .«next_value» ≡ pwmAt u i .value
-      → highOf i (limit (timerOf (u .timers) (pwmAt u i))) u ≡ min (pwmAt u i .value) (limit (timerOf (u .timers) (pwmAt u i)))
+  pub whole : (i : ℕ) → Pulses u i → timerBy u i .count ≡ 0 → HighByValue u i
+  pub steady : (i : ℕ) → Pulses u i → timerBy u i .count < limit (timerBy u i) → pwmAt u i .«next_value» ≡ pwmAt u i .value → HighByValue u i
