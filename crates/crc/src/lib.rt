@@ -1,4 +1,6 @@
 // CRC-32C, the cyclic redundancy check with Castagnoli's polynomial.
+#![tactic(auto)]
+
 ghost use Rattle.std.specs.Prelude.{◌≡◌};
 ghost use Rattle.crc.specs.Crc.{crc_of};
 

@@ -1,4 +1,6 @@
 // Why a call was refused.
+#![tactic(auto)]
+
 ghost use Rattle.std.specs.Prelude.{◌≡◌};
 ghost use Rattle.faults.specs.Faults.{refusal_number, layer_number};
 

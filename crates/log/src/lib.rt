@@ -1,4 +1,5 @@
 // Records, one after the other, in memory that the host lends.
+#![tactic(auto)]
 ghost use Rattle.std.specs.Prelude.{◌≡◌, ◌-◌, min, ltb, length, take, set};
 ghost use Rattle.log.specs.Records.{count};
 

@@ -1,4 +1,5 @@
 // What a host asks of a bench and what it is answered. specs/ has the machine that says what each call gives.
+#![tactic(auto)]
 ghost use Rattle.std.specs.Prelude.{◌≡◌};
 ghost use Rattle.machine.specs.Answers.{stop_number};
 

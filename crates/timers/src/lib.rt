@@ -1,4 +1,5 @@
 // The timer unit: sixteen timers, and six pulse-width modules that run on them.
+#![tactic(auto)]
 ghost use Rattle.std.specs.Prelude.{◌≡◌, length};
 
 use pwm::Pwm;

@@ -1,4 +1,5 @@
 // What a bench writes down: events, and what a host can see change.
+#![tactic(auto)]
 mod events;
 mod view;
 

@@ -8,8 +8,8 @@ pub returns : goal.returns
 unfolding byte_step
 returns c =
     let n = bit_xor c.args.self.now.register c.from.result in
-    let e : bit_xor c.eight-steps.result (n / 256) ≡ byte_step c.args.self.now.register c.args.byte
-    = ap (λ x. bit_xor x (n / 256)) c.eight-steps.ensures
+    let e : bit_xor c.eight_steps.result (n / 256) ≡ byte_step c.args.self.now.register c.args.byte
+    = ap (λ x. bit_xor x (n / 256)) c.eight_steps.ensures
     ∙ by_byte n
     ∙ ap (λ b. bit_steps 8 (bit_xor c.args.self.now.register b)) c.from.ensures in
     λ i. record { register = e i }
