@@ -1,6 +1,7 @@
 // The lamps of a front panel: one register over a word that the host lends and shows. Small on purpose: new
 // peripherals follow its pattern.
 #![tactic(auto)]
+
 ghost use Rattle.std.specs.Prelude.{◌≡◌, [], refl};
 ghost use Rattle.registers.specs.Address.{word_address};
 ghost use Rattle.peripheral.specs.Bus as bus;

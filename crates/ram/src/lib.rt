@@ -1,5 +1,6 @@
 // RAM over bytes that the host lends.
 #![tactic(auto)]
+
 ghost use Rattle.std.specs.Prelude.{◌≡◌, ◌+◌, ◌<◌, length, Some};
 ghost use Rattle.registers.specs.Address.{word_address};
 ghost use Rattle.peripheral.specs.Bus as bus;

@@ -1,5 +1,6 @@
 // The timer unit: sixteen timers, and six pulse-width modules that run on them.
 #![tactic(auto)]
+
 ghost use Rattle.std.specs.Prelude.{◌≡◌, length};
 
 use pwm::Pwm;

@@ -14,7 +14,7 @@ loop-k-preserved c =
     elim c.if-mask-k-eq1.branch [
       | then-mask-k-eq1 w ↦
           w.bytes-is
-          ∙ ap (λ (b : List ℕ). set c.loop-k.bytes (i + k) (get_or b k 0)) c.to-le-bytes-word.ensures
+          ∙ ap (λ (b : List ℕ). set c.loop-k.bytes (i + k) (get_or b k 0)) c.to_le_bytes-word.ensures
           ∙ ap (set c.loop-k.bytes (i + k)) (byte_is v k c.loop-k-test.true)
           ∙ ap (λ (b : List ℕ). set b (i + k) (byte k v)) c.loop-k.invariant
           ∙ sym (stored_on s i v l k w.if-mask-k-eq1.true)

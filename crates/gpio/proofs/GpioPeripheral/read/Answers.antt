@@ -9,16 +9,16 @@ use Rattle.gpio.specs.Map.{owns, register_at}
 use Rattle.gpio.specs.Ports.{word}
 use Rattle.gpio.proofs.GpioPeripheral.read.Goals as goal
 
-pub returns-in-err-register : goal.returns-in-err-register
-returns-in-err-register c =
+pub returns-in_err-register : goal.returns-in_err-register
+returns-in_err-register c =
     let w = word_address c.args.addr in
-    let f = c.in-err-register.field-0.0 in
-    told_exit c.from-residual.result f c.from-residual.ensures.1
-    ∙ sym (missing (λ r. shown (alias_at w) (word c.args.self.now r)) c.args.addr (owns w) (register_at w) (code_of f) c.in-err-register.ensures)
+    let f = c.in_err-register.field-0.0 in
+    told_exit c.from_residual.result f c.from_residual.ensures.1
+    ∙ sym (missing (λ r. shown (alias_at w) (word c.args.self.now r)) c.args.addr (owns w) (register_at w) (code_of f) c.in_err-register.ensures)
 
 pub returns : goal.returns
 returns c =
     let a = c.args.addr in
     let w = word_address a in
     ap {B = Result ℕ Code} Ok (c.read.ensures ∙ ap₂ shown (c.at.ensures ∙ sym (alias_word a)) c.word.ensures)
-    ∙ sym (found (λ r. shown (alias_at w) (word c.args.self.now r)) a (owns w) (register_at w) c.in-ok-register.register c.in-ok-register.ensures)
+    ∙ sym (found (λ r. shown (alias_at w) (word c.args.self.now r)) a (owns w) (register_at w) c.in_ok-register.register c.in_ok-register.ensures)

@@ -9,6 +9,6 @@ returns c =
     record {
       same = refl;
       spare = refl;
-      after = sym (still_steps panel_model.clock s refl c.args.-n);
-      value = sym (still_union panel_model.clock panel_model.raised s refl refl c.args.-n);
+      after = sym (still_steps panel_model.clock s refl c.args._n);
+      value = sym (still_union panel_model.clock panel_model.raised s refl refl c.args._n);
     }

@@ -9,6 +9,6 @@ returns c =
     record {
       same = refl;
       spare = refl;
-      after = sym (still_steps (model_over xs).clock (state_over xs) refl c.args.-n);
-      value = sym (still_union (model_over xs).clock (model_over xs).raised (state_over xs) refl refl c.args.-n);
+      after = sym (still_steps (model_over xs).clock (state_over xs) refl c.args._n);
+      value = sym (still_union (model_over xs).clock (model_over xs).raised (state_over xs) refl refl c.args._n);
     }

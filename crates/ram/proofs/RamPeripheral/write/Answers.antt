@@ -12,10 +12,10 @@ use Rattle.ram.proofs.RamPeripheral.write.Goals as goal
 
 pub store-requires : goal.store-requires
 store-requires c =
-    omega (arith, (found_stands (length c.args.self.now.bytes.now) c.args.addr c.in-ok-at.at c.in-ok-at.ensures).whole)
+    omega (arith, (found_stands (length c.args.self.now.bytes.now) c.args.addr c.in_ok-at.at c.in_ok-at.ensures).whole)
 
-pub returns-in-err-at : goal.returns-in-err-at
-returns-in-err-at c =
+pub returns-in_err-at : goal.returns-in_err-at
+returns-in_err-at c =
     let xs = c.args.self.now.bytes.now in
     let a = c.args.addr in
     let v = c.args.value in
@@ -25,10 +25,10 @@ returns-in-err-at c =
     let s = state_over xs in
     let f : ℕ → List ℕ = λ i. stored s i v l 4 in
     let same : List ℕ → List ℕ = λ t. t in
-    let fault = c.in-err-at.field-0.0 in
+    let fault = c.in_err-at.field-0.0 in
     let code = code_of fault in
-    let none = c.in-err-at.ensures in
-    let refused : told c.from-residual.result ≡ Err code = told_exit c.from-residual.result fault c.from-residual.ensures.1 in
+    let none = c.in_err-at.ensures in
+    let refused : told c.from_residual.result ≡ Err code = told_exit c.from_residual.result fault c.from_residual.ensures.1 in
     record {
       same = refl;
       spare = refl;
@@ -37,7 +37,7 @@ returns-in-err-at c =
           refused
           ∙ sym (missing_done f same a (owns n w) (Some (offset w)) code none);
       stores = stores_none xs a v l (missed_free (length xs) a code none);
-      back = refused_back (told c.from-residual.result) code a v l xs refused;
+      back = refused_back (told c.from_residual.result) code a v l xs refused;
     }
 
 pub returns : goal.returns
@@ -50,10 +50,10 @@ returns c =
     let w = word_address a in
     let n = used (length xs) in
     let s = state_over xs in
-    let i = c.in-ok-at.at in
+    let i = c.in_ok-at.at in
     let f : ℕ → List ℕ = λ j. stored s j v l 4 in
     let same : List ℕ → List ℕ = λ t. t in
-    let there = c.in-ok-at.ensures in
+    let there = c.in_ok-at.ensures in
     let at = found_stands (length xs) a i there in
     let room : i + 4 ≤ n = omega (arith, at.whole) in
     let now : ys ≡ stored xs i v l 4 = c.store.ensures in

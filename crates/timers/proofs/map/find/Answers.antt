@@ -10,6 +10,6 @@ returns c =
     record {
       value =
           c.located.ensures
-          ∙ ap₂ (bus.located a) c.claimed.ensures (c.register-at.ensures.value ∙ ap register_at c.word-address.ensures);
-      within = found_with Within a c.claimed.result c.register-at.result c.located.result c.located.ensures c.register-at.ensures.within;
+          ∙ ap₂ (bus.located a) c.claimed.ensures (c.register_at.ensures.value ∙ ap register_at c.word_address.ensures);
+      within = found_with Within a c.claimed.result c.register_at.result c.located.result c.located.ensures c.register_at.ensures.within;
     }

@@ -6,14 +6,14 @@ use Rattle.timers.proofs.unit.ticked.Goals as goal
 pub loop-i-init : goal.loop-i-init
 loop-i-init c = flags_end (ticks_within c.args.n) c.args.timers.now
 
-pub overflow-mul-word : goal.overflow-mul-word
-overflow-mul-word c = omega (arith, c.loop-i.invariant, flags_small (ticks_within c.args.n) c.args.timers.now c.loop-i.i (omega arith))
+pub overflow_mul-word : goal.overflow_mul-word
+overflow_mul-word c = omega (arith, c.loop-i.invariant, flags_small (ticks_within c.args.n) c.args.timers.now c.loop-i.i (omega arith))
 
-pub overflow-add-word : goal.overflow-add-word
-overflow-add-word c =
-    omega (arith, c.loop-i.invariant, c.from.ensures, byte_le c.ticks-within.result, flags_small (ticks_within c.args.n) c.args.timers.now c.loop-i.i (omega arith))
+pub overflow_add-word : goal.overflow_add-word
+overflow_add-word c =
+    omega (arith, c.loop-i.invariant, c.from.ensures, byte_le c.ticks_within.result, flags_small (ticks_within c.args.n) c.args.timers.now c.loop-i.i (omega arith))
 
 pub loop-i-preserved : goal.loop-i-preserved
 loop-i-preserved c =
     flags_back (ticks_within c.args.n) c.args.timers.now idle c.loop-i.i c.loop-i.word c.from.result c.loop-i-test.true c.loop-i.auto.i c.loop-i.invariant
-    (c.from.ensures ∙ byte-number c.ticks-within.result ∙ ap number c.ticks-within.ensures)
+    (c.from.ensures ∙ byte-number c.ticks_within.result ∙ ap number c.ticks_within.ensures)

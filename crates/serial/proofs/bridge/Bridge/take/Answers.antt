@@ -6,17 +6,17 @@ pub returns-in-Some : goal.returns-in-Some
 unfolding after answer
 returns-in-Some c = search rules
 
-pub returns-in-default : goal.returns-in-default
+pub returns-in_default : goal.returns-in_default
 unfolding after answer
-returns-in-default c = search rules
+returns-in_default c = search rules
 
 pub returns-in-Some-take : goal.returns-in-Some-take
 unfolding after answer
 returns-in-Some-take c = search rules
 
-pub returns-in-default-take : goal.returns-in-default-take
+pub returns-in_default-take : goal.returns-in_default-take
 unfolding after answer
-returns-in-default-take c = search rules
+returns-in_default-take c = search rules
 
 pub returns-in-Some-take-2 : goal.returns-in-Some-take-2
 unfolding after answer

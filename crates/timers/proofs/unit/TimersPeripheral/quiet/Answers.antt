@@ -11,7 +11,7 @@ unfolding calm
 returns c =
     let x = c.args.self.now in
     let u = bank_of x in
-    let e : c.calm-modules.result ≡ calm u = c.calm-modules.ensures ∙ ap (λ q. least (pwm.calm u.timers) q u.modules) c.calm-timers.ensures in
+    let e : c.calm_modules.result ≡ calm u = c.calm_modules.ensures ∙ ap (λ q. least (pwm.calm u.timers) q u.modules) c.calm_timers.ensures in
     record {
       holds = subst (Quiet timers_model (state_of x)) (sym e) (quiet_calm u (shaped_bank x));
       value = e;

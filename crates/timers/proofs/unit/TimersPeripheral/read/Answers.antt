@@ -11,15 +11,15 @@ use Rattle.timers.specs.Unit.{bank_of, word}
 use Rattle.timers.specs.Rules.{rules, coded, shaped_bank}
 use Rattle.timers.proofs.unit.TimersPeripheral.read.Goals as goal
 
-pub returns-in-err-register : goal.returns-in-err-register
+pub returns-in_err-register : goal.returns-in_err-register
 unfolding rules
-returns-in-err-register c =
+returns-in_err-register c =
     let u = bank_of c.args.self.now in
     let a = c.args.addr in
     let w = word_address a in
-    let f = c.in-err-register.field-0.0 in
-    told_exit c.from-residual.result f c.from-residual.ensures.1
-    ∙ sym (missing (λ r. shown (alias_at w) (word u r)) a (owns w) (register_at w) (code_of f) c.in-err-register.ensures.value)
+    let f = c.in_err-register.field-0.0 in
+    told_exit c.from_residual.result f c.from_residual.ensures.1
+    ∙ sym (missing (λ r. shown (alias_at w) (word u r)) a (owns w) (register_at w) (code_of f) c.in_err-register.ensures.value)
     ∙ sym (read_of rules coded u a (shaped_bank c.args.self.now))
 
 pub returns : goal.returns
@@ -29,5 +29,5 @@ returns c =
     let a = c.args.addr in
     let w = word_address a in
     ap {B = Result ℕ Code} Ok (c.read.ensures ∙ ap₂ shown (c.at.ensures ∙ sym (alias_word a)) c.word.ensures)
-    ∙ sym (found (λ r. shown (alias_at w) (word u r)) a (owns w) (register_at w) c.in-ok-register.register c.in-ok-register.ensures.value)
+    ∙ sym (found (λ r. shown (alias_at w) (word u r)) a (owns w) (register_at w) c.in_ok-register.register c.in_ok-register.ensures.value)
     ∙ sym (read_of rules coded u a (shaped_bank c.args.self.now))

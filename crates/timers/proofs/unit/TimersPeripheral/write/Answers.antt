@@ -11,24 +11,24 @@ use Rattle.timers.specs.Unit.{Bank, bank_of, written}
 use Rattle.timers.specs.Rules.{encode, rules, coded, shaped_bank}
 use Rattle.timers.proofs.unit.TimersPeripheral.write.Goals as goal
 
-pub returns-in-err-register : goal.returns-in-err-register
+pub returns-in_err-register : goal.returns-in_err-register
 unfolding rules
-returns-in-err-register c =
+returns-in_err-register c =
     let u = bank_of c.args.self.now in
     let a = c.args.addr in
     let v = c.args.value in
     let l = c.args.lanes.mask in
     let w = word_address a in
     let f : Register → Bank = λ r. written u r (alias_at w) v l in
-    let fault = c.in-err-register.field-0.0 in
-    let e = c.in-err-register.ensures.value in
+    let fault = c.in_err-register.field-0.0 in
+    let e = c.in_err-register.ensures.value in
     let stored = write_of rules coded u a v l (shaped_bank c.args.self.now) in
     record {
       same = refl;
       spare = refl;
       after = sym (ap (kept (encode u)) stored ∙ missing_kept f encode a (owns w) (register_at w) (encode u) (code_of fault) e);
       value =
-          told_exit c.from-residual.result fault c.from-residual.ensures.1
+          told_exit c.from_residual.result fault c.from_residual.ensures.1
           ∙ sym (ap done stored ∙ missing_done f encode a (owns w) (register_at w) (code_of fault) e);
     }
 
@@ -40,9 +40,9 @@ returns c =
     let v = c.args.value in
     let l = c.args.lanes.mask in
     let w = word_address a in
-    let r = c.in-ok-register.register in
+    let r = c.in_ok-register.register in
     let f : Register → Bank = λ q. written u q (alias_at w) v l in
-    let e = c.in-ok-register.ensures.value in
+    let e = c.in_ok-register.ensures.value in
     let stored = write_of rules coded u a v l (shaped_bank c.args.self.now) in
     record {
       same = refl;
