@@ -1,5 +1,6 @@
 // Examples of what the peripherals do, alone and in pairs of pairs over lent memory.
 #![tactic(auto)]
+
 ghost use Rattle.std.specs.Prelude.{◌≡◌};
 ghost use Rattle.peripheral.specs.Bus.{told};
 ghost use Rattle.conformance.specs.Exchange.{exchange_state, exchange_answer};

@@ -1,5 +1,6 @@
 // Dims a lamp to 40 %: a pulse-width module lights it for 400 of the 1,000 clocks of a timer's period.
 #![tactic(auto)]
+
 use lamp::{Lamp, Setting};
 use std::io;
 

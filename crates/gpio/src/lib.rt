@@ -1,5 +1,6 @@
 // Two ports of 32 general-purpose pins each, with an interrupt where a watched pin changes.
 #![tactic(auto)]
+
 ghost use Rattle.std.specs.Prelude.{◌≡◌, replicate, refl};
 ghost use Rattle.registers.specs.Aliases.{alias_number};
 ghost use Rattle.peripheral.specs.Model.{Quiet, Largest, clocks, raises};

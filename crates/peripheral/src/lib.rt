@@ -1,5 +1,6 @@
 // What every peripheral stands behind, and two peripherals as one.
 #![tactic(auto)]
+
 mod bus;
 mod interface;
 mod pairs;

@@ -1,5 +1,6 @@
 // How a word on the bus reaches the bits of a register: one set of rules for every register of the chip.
 #![tactic(auto)]
+
 ghost use Rattle.std.specs.Prelude.{◌≡◌};
 ghost use Rattle.registers.specs.Address.{word_address};
 

@@ -1,5 +1,6 @@
 // Switches two relays through the GPIO, shows them on a lamp panel, and serves a change on an input pin.
 #![tactic(auto)]
+
 use gpio::Gpio;
 use job::JOB;
 use panel::Panel;

@@ -4,6 +4,7 @@
 // the lowest first. The words go to consecutive addresses from the first, whose two lowest bits are cleared. The last
 // byte of an upload is answered, whether its CRC is right or not.
 #![tactic(auto)]
+
 mod bridge;
 mod field;
 

@@ -1,5 +1,6 @@
 // Checks CRC-32C against published values, and takes whole uploads through the serial bridge.
 #![tactic(auto)]
+
 use published::VECTORS;
 use report::{Ending, Line, Outcome};
 use serial::{Bridge, Step};
