@@ -1,11 +1,11 @@
 -- The board: its registers, the interrupt on offer, and what a reset and a clock leave. Assumes nothing.
-use Rattle.std.specs.Prelude.{ℕ, ◌+◌, ◌*◌, ◌/◌, ◌%◌, Bool, cond, not, ◌&&◌, Ok, Err, Option, Result, ◌==◌, bit_and, bit_or}
+use Rattle.std.specs.Prelude.{ℕ, ◌+◌, ◌*◌, ◌/◌, ◌%◌, Bool, cond, not, ◌&&◌, Ok, Err, Result, ◌==◌, bit_and, bit_or}
 use Rattle.std.specs.Int.Count.{count_trailing_zeros}
 use Rattle.std.specs.Option.{option_map}
 use Rattle.faults.specs.Faults.{Code}
 use Rattle.registers.specs.Address.{word_address}
 use Rattle.registers.specs.Aliases.{alias_at}
-use Rattle.registers.specs.Bits.{bit, without, lane_bits}
+use Rattle.registers.specs.Bits.{bit, lane_bits}
 use Rattle.registers.specs.Writes.{written, cleared, shown}
 use Rattle.peripheral.specs.Bus.{located}
 use Rattle.serial.specs.declared.bridge.Bridge.{Bridge}

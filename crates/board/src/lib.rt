@@ -1,5 +1,6 @@
 // The board: its clock, the control block with the interrupt controller, the trigger levels and the serial bridge.
 #![tactic(auto)]
+
 mod control;
 mod map;
 mod state;

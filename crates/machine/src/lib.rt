@@ -1,5 +1,6 @@
 // What a host asks of a bench and what it is answered. specs/ has the machine that says what each call gives.
 #![tactic(auto)]
+
 ghost use Rattle.std.specs.Prelude.{◌≡◌};
 ghost use Rattle.machine.specs.Answers.{stop_number};
 

@@ -1,5 +1,6 @@
 // What a bench writes down: events, and what a host can see change.
 #![tactic(auto)]
+
 mod events;
 mod view;
 

@@ -1,11 +1,11 @@
 // What a host can see change, and the events of its changes.
 ghost use Rattle.std.specs.Prelude.{◌≡◌, take};
-ghost use Rattle.log.specs.Records.{Held, appended};
+ghost use Rattle.host_log.specs.Records.{Held, appended};
 ghost use Rattle.trace.specs.Events.{if_changed, output_events};
 ghost use Rattle.trace.specs.Views.{between};
 
 use crate::events::{Event, Kind};
-use log::Log;
+use host_log::Log;
 
 // The first 32 output words, 0 past the last one, the core word and the interrupt on offer.
 #[derive(Clone, Copy)]

@@ -1,7 +1,8 @@
 // Records, one after the other, in memory that the host lends.
 #![tactic(auto)]
+
 ghost use Rattle.std.specs.Prelude.{◌≡◌, ◌-◌, min, ltb, length, take, set};
-ghost use Rattle.log.specs.Records.{count};
+ghost use Rattle.host_log.specs.Records.{count};
 
 // The first slots hold the records so far. `used` never passes the number of slots, which the type cannot say: a method
 // that needs it asks again.
