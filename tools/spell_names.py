@@ -4,8 +4,9 @@ only between the names of two definitions, `_lem` after a lemma that would have 
 
 usage: python3 tools/spell_names.py   at the top of the repository, once, right after Rattle's port.py
 
-The table is complete and its new names are distinct. A dashed name is respelled in code alone, since a comment
-may hold the same words as plain English.
+The table is complete and its new names are distinct. One of them is another's older one (`first_part`), so nothing is
+changed where the older spelling is gone. A dashed name is respelled in code alone, since a comment may hold the same
+words as plain English.
 """
 import os
 import re
@@ -323,19 +324,25 @@ def respell(line, comment):
     return out + spelled(code[at:], True) + mark + spelled(said, False)
 
 
-def main():
+def texts():
     for folder, _, files in os.walk("crates"):
         for name in files:
             comment = {".rt": "//", ".antt": "-- "}.get(os.path.splitext(name)[1])
-            if comment is None:
-                continue
-            path = os.path.join(folder, name)
-            with open(path, encoding="utf-8") as f:
-                old = f.read()
-            new = "\n".join(respell(line, comment) for line in old.split("\n"))
-            if new != old:
-                with open(path, "w", encoding="utf-8") as f:
-                    f.write(new)
+            if comment is not None:
+                path = os.path.join(folder, name)
+                with open(path, encoding="utf-8") as f:
+                    yield path, comment, f.read()
+
+
+def main():
+    found = list(texts())
+    if not any("wordAddress" in NAME.findall(old) for _, _, old in found):
+        raise SystemExit("the older spelling is gone: nothing to do")
+    for path, comment, old in found:
+        new = "\n".join(respell(line, comment) for line in old.split("\n"))
+        if new != old:
+            with open(path, "w", encoding="utf-8") as f:
+                f.write(new)
 
 
 main()

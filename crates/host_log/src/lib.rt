@@ -1,7 +1,7 @@
 // Records, one after the other, in memory that the host lends.
 #![tactic(auto)]
 
-ghost use Rattle.std.specs.Prelude.{◌≡◌, ◌-◌, min, ltb, length, take, set};
+ghost use Rattle.std.specs.Prelude.{◌≡◌, ◌-◌, min, nat_lt, length, take, slice_set};
 ghost use Rattle.host_log.specs.Records.{count};
 
 // The first slots hold the records so far. `used` never passes the number of slots, which the type cannot say: a method
@@ -32,11 +32,11 @@ impl<'a, T: Copy> Log<'a, T> {
         Log { slots, used }
     }
 
-    // Adds a record, and says whether there was room. A full log stays as it is: `set` past the end changes nothing.
+    // Adds a record, and says whether there was room. A full log stays as it is: `slice_set` past the end changes nothing.
     pub fn push(&mut self, record: T) -> bool
-        ensures slots { self.new.slots.now ≡ set self.old.slots.now self.old.used «record» }
+        ensures slots { self.new.slots.now ≡ slice_set self.old.slots.now self.old.used «record» }
         ensures used { self.new.used ≡ count (length self.old.slots.now) self.old.used }
-        ensures room { result ≡ ltb self.old.used (length self.old.slots.now) }
+        ensures room { result ≡ nat_lt self.old.used (length self.old.slots.now) }
         ensures lent { self.new.slots.ghost_name ≡ self.old.slots.ghost_name }
     {
         if self.used >= self.slots.len() {

@@ -40,14 +40,14 @@ flags_or p q (x ∷ xs) =
 
 -- ---- the timer of a module
 
-pub get_d_map : {A : Type 0} (f : A → A) (d : A) → f d ≡ d → (xs : List A) (i : ℕ) → get_or (map f xs) i d ≡ f (get_or xs i d)
-get_d_map f d e [] i = sym e
-get_d_map f d e (x ∷ xs) zero = refl
-get_d_map f d e (x ∷ xs) (suc i) = get_d_map f d e xs i
+pub get_or-map : {A : Type 0} (f : A → A) (d : A) → f d ≡ d → (xs : List A) (i : ℕ) → get_or (map f xs) i d ≡ f (get_or xs i d)
+get_or-map f d e [] i = sym e
+get_or-map f d e (x ∷ xs) zero = refl
+get_or-map f d e (x ∷ xs) (suc i) = get_or-map f d e xs i
 
 pub timer_of-map : (f : Timer → Timer) → f idle ≡ idle → (ts : List Timer) (m : Pwm) → timer_of (map f ts) m ≡ f (timer_of ts m)
 unfolding timer_of
-timer_of-map f e ts m = get_d_map f idle e ts _
+timer_of-map f e ts m = get_or-map f idle e ts _
 
 -- ---- clocks after clocks
 

@@ -10,14 +10,14 @@ use Rattle.timers.specs.Unit.{Bank, timer_at, flags, passed, clocked, raise}
 use Rattle.timers.specs.Rules.{Shaped}
 use Rattle.timers.specs.Law.{ticks_of, SomeTick, Counts}
 use Rattle.timers.proofs.Counting.{steps_some, steps_stopped, ticks-running, ticks_stopped}
-use Rattle.timers.proofs.Banks.{get_d_map, clock_idle}
+use Rattle.timers.proofs.Banks.{get_or-map, clock_idle}
 use Rattle.timers.proofs.Modules.{steps-idle}
 use Rattle.timers.proofs.Flagging.{bit-flags, some_flag, flag_some}
 
 -- the unit's clock is each timer's own
 timer_clocked : (u : Bank) (i : ℕ) → timer_at (clocked u) i ≡ timer.clocked (timer_at u i)
 unfolding clocked passed
-timer_clocked u i = get_d_map timer.clocked idle clock_idle u.timers i
+timer_clocked u i = get_or-map timer.clocked idle clock_idle u.timers i
 
 ticks_of_timer : (i n : ℕ) (u : Bank) → ticks_of i n u ≡ ticks_in n (timer_at u i)
 unfolding ticks_of ticks_in
@@ -35,7 +35,7 @@ module _ (u : Bank) (shaped : Shaped u) (n : ℕ) where
 
   timer_after : (i : ℕ) → timer_at after i ≡ steps timer.clocked n (timer_at u i)
   unfolding after passed
-  timer_after i = get_d_map (steps timer.clocked n) idle (steps-idle n) u.timers i
+  timer_after i = get_or-map (steps timer.clocked n) idle (steps-idle n) u.timers i
 
   status_after : (i : ℕ) → i < 16 → bit i after.status ≡ (bit i u.status || ltb 0 (ticks_of i n u))
   unfolding after passed
