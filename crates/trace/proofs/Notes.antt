@@ -22,6 +22,7 @@ first_more : {T : Type 0} (b : Bool) (e : T) (xs ys zs : List T) → xs ≡ ys +
 first_more true e xs ys zs h = h
 first_more false e xs ys zs h = ap (λ es. e ∷ es) h
 
+-- the place of the word after the first ones
 further : (k i : ℕ) → (k + 1) + i ≡ k + suc i
 further k i = omega arith
 

@@ -1,6 +1,7 @@
 // What a host can see change, and the events of its changes.
-ghost use Rattle.std.specs.Prelude.{◌≡◌, take};
-ghost use Rattle.host_log.specs.Records.{Held, appended};
+ghost use Rattle.std.specs.Prelude.{◌≡◌};
+ghost use Rattle.host_log.specs.Lent.{held};
+ghost use Rattle.host_log.specs.Records.{appended};
 ghost use Rattle.trace.specs.Events.{if_changed, output_events};
 ghost use Rattle.trace.specs.Views.{between};
 
@@ -17,7 +18,7 @@ pub struct View {
 
 // Writes an event that tells a new value, if it is not the one before.
 fn note(log: &mut Log<'_, Event>, before: u32, event: Event)
-    ensures held { record { slots = log.new.slots.now; used = log.new.used } ≡ appended (record { slots = log.old.slots.now; used = log.old.used }) (if_changed before event.value event) }
+    ensures held { held log.new ≡ appended (held log.old) (if_changed before event.value event) }
     ensures lent { log.new.slots.ghost_name ≡ log.old.slots.ghost_name }
 {
     if before != event.value {
@@ -28,7 +29,7 @@ fn note(log: &mut Log<'_, Event>, before: u32, event: Event)
 impl View {
     // Writes an event for each thing that differs in `after`: output words, ascending, core word, offer.
     pub fn record(&self, after: &View, cycle: u64, log: &mut Log<'_, Event>)
-        ensures held { record { slots = log.new.slots.now; used = log.new.used } ≡ appended (record { slots = log.old.slots.now; used = log.old.used }) (between cycle self.now after.now) }
+        ensures held { held log.new ≡ appended (held log.old) (between cycle self.now after.now) }
         ensures lent { log.new.slots.ghost_name ≡ log.old.slots.ghost_name }
     {
         self.record_words(after, cycle, log);
@@ -45,7 +46,7 @@ impl View {
     }
 
     fn record_words(&self, after: &View, cycle: u64, log: &mut Log<'_, Event>)
-        ensures held { record { slots = log.new.slots.now; used = log.new.used } ≡ appended (record { slots = log.old.slots.now; used = log.old.used }) (output_events cycle 0 (take 32 self.now.words) (take 32 after.now.words)) }
+        ensures held { held log.new ≡ appended (held log.old) (output_events cycle 0 self.now.words after.now.words) }
         ensures lent { log.new.slots.ghost_name ≡ log.old.slots.ghost_name }
     {
         for i in 0..32 {

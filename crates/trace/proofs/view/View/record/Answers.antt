@@ -1,5 +1,6 @@
-use Rattle.std.proofs.Common.{ap, ◌∙◌, take}
-use Rattle.host_log.specs.Records.{Held, appended}
+use Rattle.std.proofs.Common.{ap, ◌∙◌}
+use Rattle.host_log.specs.Lent.{held}
+use Rattle.host_log.specs.Records.{appended}
 use Rattle.trace.specs.declared.events.Event.{Event}
 use Rattle.trace.specs.declared.events.Kind.TheVariants as kind
 use Rattle.trace.specs.Events.{event, if_changed, output_events}
@@ -8,13 +9,13 @@ use Rattle.trace.proofs.view.View.record.Goals as goal
 
 pub returns-clause-held : goal.returns-clause-held
 returns-clause-held c =
-    let first : Held Event = record { slots = c.args.log.now.slots.now; used = c.args.log.now.used } in
-    let second : Held Event = record { slots = c.record_words.new.log.slots.now; used = c.record_words.new.log.used } in
-    let third : Held Event = record { slots = c.note.new.log.slots.now; used = c.note.new.log.used } in
+    let first = held c.args.log.now in
+    let second = held c.record_words.new.log in
+    let third = held c.note.new.log in
     let t = c.args.cycle in
     let v = c.args.self.now in
     let w = c.args.after.now in
-    let words = output_events t 0 (take 32 v.words) (take 32 w.words) in
+    let words = output_events t 0 v.words w.words in
     let core = if_changed v.core w.core (event t kind.Output 32 w.core 0 0) in
     let offer = if_changed v.offer w.offer (event t kind.Offer 0 w.offer 0 0) in
     c.note-2.ensures.held

@@ -1,5 +1,6 @@
 use Rattle.std.proofs.Common.{get_or, ap, ◌∙◌, arith}
-use Rattle.host_log.specs.Records.{Held, appended}
+use Rattle.host_log.specs.Lent.{held}
+use Rattle.host_log.specs.Records.{appended}
 use Rattle.trace.specs.declared.events.Event.{Event}
 use Rattle.trace.specs.Events.{if_changed}
 use Rattle.trace.proofs.Notes.{noted}
@@ -8,8 +9,8 @@ use Rattle.trace.proofs.view.View.record_words.Goals as goal
 pub loop-i-preserved : goal.loop-i-preserved
 loop-i-preserved c =
     let i = c.loop-i.i in
-    let before : Held Event = record { slots = c.loop-i.log.slots.now; used = c.loop-i.log.used } in
-    let first : Held Event = record { slots = c.args.log.now.slots.now; used = c.args.log.now.used } in
+    let before = held c.loop-i.log in
+    let first = held c.args.log.now in
     let xs = c.args.self.now.words in
     let ys = c.args.after.now.words in
     record {
