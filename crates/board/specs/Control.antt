@@ -1,13 +1,11 @@
 -- The board: its registers, the interrupt on offer, and what a reset and a clock leave. Assumes nothing.
-use Rattle.std.specs.Prelude.{ℕ, ◌+◌, ◌*◌, ◌/◌, ◌%◌, Bool, cond, not, ◌&&◌, Ok, Err, Result, ◌==◌, bit_and, bit_or}
+use Rattle.std.specs.Prelude.{ℕ, ◌+◌, ◌*◌, ◌/◌, ◌%◌, Bool, if◌then◌else◌, not, ◌&&◌, Result, ◌==◌, bit_and, bit_or}
 use Rattle.std.specs.Int.Count.{count_trailing_zeros}
-use Rattle.std.specs.Option.{option_map}
 use Rattle.faults.specs.Faults.{Code}
-use Rattle.registers.specs.Address.{word_address}
-use Rattle.registers.specs.Aliases.{alias_at}
 use Rattle.registers.specs.Bits.{bit, lane_bits}
-use Rattle.registers.specs.Writes.{written, cleared, shown}
-use Rattle.peripheral.specs.Bus.{located}
+use Rattle.registers.specs.Writes.{written, cleared}
+use Rattle.peripheral.specs.Bus.{left}
+use Rattle.peripheral.specs.Block.{read_register, written_register}
 use Rattle.serial.specs.declared.bridge.Bridge.{Bridge}
 use Rattle.serial.specs.Upload.{fresh}
 use Rattle.board.specs.declared.map.Register.{Register}
@@ -40,31 +38,32 @@ content_of b ClkFreq = 25000000
 
 -- Bits 31 to 16 of CONTROL are the control flags, bit 3 INTGEN, bit 2 SOCRES, bit 1 CORERES, bit 0 COREHLT.
 -- INT_FLAGS is clear-only, CLK_FREQ read-only.
-abbrev pub put_at : Board → ℕ → ℕ → ℕ → Register → Board
-put_at b n v mask Control = holding b (written n b.control v (bit_and mask 0xFFFF000F)) b.enable b.flags
-put_at b n v mask IntEn = holding b b.control (written n b.enable v mask) b.flags
-put_at b n v mask IntFlags = holding b b.control b.enable (cleared n b.flags v mask)
-put_at b n v mask ClkFreq = b
+abbrev pub written_at : Board → ℕ → ℕ → ℕ → Register → Board
+written_at b n v mask Control = holding b (written n b.control v (bit_and mask 0xFFFF000F)) b.enable b.flags
+written_at b n v mask IntEn = holding b b.control (written n b.enable v mask) b.flags
+written_at b n v mask IntFlags = holding b b.control b.enable (cleared n b.flags v mask)
+written_at b n v mask ClkFreq = b
+
+-- by the alias k, of v under lanes l
+abbrev pub after_write : Board → ℕ → ℕ → ℕ → Register → Board
+after_write b k v l r = written_at b k v (lane_bits l) r
 
 -- an access to the block, at an address as it was given
 abbrev pub read_control : Board → ℕ → Result ℕ Code
-read_control b a =
-    located a (owns (word_address a)) (option_map (λ r. shown (alias_at (word_address a)) (content_of b r)) (register_at (word_address a)))
+read_control = read_register register_at owns content_of
 
 abbrev pub write_control : Board → ℕ → ℕ → ℕ → Result Board Code
-write_control b a v l =
-    located a (owns (word_address a)) (option_map (put_at b (alias_at (word_address a)) v (lane_bits l)) (register_at (word_address a)))
+write_control = written_register register_at owns after_write
 
 -- a refused write leaves the board
 abbrev pub kept_board : Board → Result Board Code → Board
-kept_board b (Ok c) = c
-kept_board b (Err f) = b
+kept_board = left
 
 -- ---- what it shows
 
 -- the interrupt on offer: the lowest ID that is enabled and flagged, if INTGEN is 1; else 32, for none
 abbrev pub offer : Board → ℕ
-offer b = cond (bit 3 b.control) (count_trailing_zeros 32 (bit_and b.enable b.flags)) 32
+offer b = if bit 3 b.control then count_trailing_zeros 32 (bit_and b.enable b.flags) else 32
 
 -- the core word: CONTROL with bits 2 and 3 at 0
 abbrev pub core_word : Board → ℕ

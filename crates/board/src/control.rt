@@ -2,16 +2,15 @@
 ghost use Rattle.std.specs.Prelude.{◌≡◌, ◌<◌};
 ghost use Rattle.faults.specs.Faults.{told};
 ghost use Rattle.registers.specs.Address.{word_address};
-ghost use Rattle.registers.specs.Aliases.{alias_number};
 ghost use Rattle.registers.specs.Bits as bits;
 ghost use Rattle.peripheral.specs.Bus.{done};
 ghost use Rattle.board.specs.Map as addresses;
 ghost use Rattle.board.specs.Control as spec;
 
-use crate::map::{Register, find, owned};
+use crate::map::Register;
 use crate::state::Board;
-use peripheral::Fault;
-use registers::{Alias, Lanes, word_address};
+use peripheral::{Fault, RegisterBlock, RegisterMap};
+use registers::{Lanes, Write};
 use serial::Bridge;
 
 // The bits of CONTROL that are there: the control flags, INTGEN, SOCRES, CORERES and COREHLT.
@@ -33,6 +32,36 @@ fn bit(k: u32, word: u32) -> bool
     (word >> k) % 2 == 1
 }
 
+impl RegisterBlock for Board {
+    type Register = Register;
+
+    type Content = Board;
+
+    ghost content = { λ b. b };
+
+    ghost word_of = { spec.content_of };
+
+    ghost after_write = { spec.after_write };
+
+    fn word(&self, register: Register) -> u32 {
+        match register {
+            Register::Control => self.control,
+            Register::IntEn => self.enable,
+            Register::IntFlags => self.flags,
+            Register::ClkFreq => FREQUENCY,
+        }
+    }
+
+    fn put(&mut self, register: Register, write: Write) {
+        match register {
+            Register::Control => self.control = write.apply_to(self.control, NAMED),
+            Register::IntEn => self.enable = write.apply(self.enable),
+            Register::IntFlags => self.flags = write.clear(self.flags),
+            Register::ClkFreq => {}
+        }
+    }
+}
+
 impl Board {
     // A board that was just powered.
     pub fn power() -> Board
@@ -52,19 +81,13 @@ impl Board {
     pub fn owns(addr: u32) -> bool
         ensures { result ≡ addresses.owns (word_address addr) }
     {
-        owned(addr)
+        Register::claims(addr)
     }
 
     pub fn read(&self, addr: u32) -> Result<u32, Fault>
         ensures { told result ≡ spec.read_control self.now addr }
     {
-        let word = match find(addr)? {
-            Register::Control => self.control,
-            Register::IntEn => self.enable,
-            Register::IntFlags => self.flags,
-            Register::ClkFreq => FREQUENCY,
-        };
-        Ok(Alias::at(word_address(addr)).read(word))
+        self.read_at(addr)
     }
 
     // A refused write leaves the board as it is.
@@ -72,23 +95,10 @@ impl Board {
         ensures after { self.new ≡ spec.kept_board self.old (spec.write_control self.old addr value lanes.mask) }
         ensures value { told result ≡ done (spec.write_control self.old addr value lanes.mask) }
     {
-        let register = find(addr)?;
-        self.put(register, Alias::at(word_address(addr)), value, lanes.bits());
-        Ok(())
+        self.write_at(addr, value, lanes)
     }
 
-    fn put(&mut self, register: Register, alias: Alias, value: u32, mask: u32)
-        ensures { self.new ≡ spec.put_at self.old (alias_number alias) value mask register }
-    {
-        match register {
-            Register::Control => self.control = alias.write(self.control, value, mask & NAMED),
-            Register::IntEn => self.enable = alias.write(self.enable, value, mask),
-            Register::IntFlags => self.flags = alias.clear(self.flags, value, mask),
-            Register::ClkFreq => {}
-        }
-    }
-
-    // The interrupt on offer: the lowest ID that is enabled and flagged, or 32 for none.
+    // The interrupt on offer: the lowest ID that is enabled and flagged, or 32 for none, which is how a trace tells it.
     pub fn offer(&self) -> u32
         ensures { result ≡ spec.offer self.now }
     {
@@ -145,6 +155,7 @@ impl Board {
     }
 
     // Clears some of the flags.
+    #[tactic(auto, using(registers::proofs::Digits::complement))]
     pub fn clear_flags(&mut self, which: u32)
         ensures { self.new ≡ spec.holding self.old self.old.control self.old.enable (bits.without self.old.flags which) }
     {

@@ -1,12 +1,7 @@
 // Where the registers of the control block stand.
-ghost use Rattle.std.specs.Prelude.{◌≡◌};
-ghost use Rattle.faults.specs.Faults.{told};
-ghost use Rattle.registers.specs.Address.{word_address};
-ghost use Rattle.peripheral.specs.Bus as bus;
-ghost use Rattle.board.specs.Map as spec;
+ghost use Rattle.board.specs.Map.{owns, register_at};
 
-use peripheral::{Fault, located};
-use registers::word_address;
+use peripheral::RegisterMap;
 
 // The registers of the control block.
 #[derive(Clone, Copy)]
@@ -17,28 +12,23 @@ pub enum Register {
     ClkFreq,
 }
 
-pub(crate) fn owned(addr: u32) -> bool
-    ensures { result ≡ spec.owns (word_address addr) }
-{
-    matches!(word_address(addr), 0x1B00_0000..=0x1B00_0FFF)
-}
+// The control block has 4 KiB of addresses. In them bits 11 to 4 give a register's number.
+impl RegisterMap for Register {
+    ghost owned = { owns };
 
-// The register at an address of the block: address bits 11 to 4 give its number.
-fn register_at(addr: u32) -> Option<Register>
-    ensures { result ≡ spec.register_at addr }
-{
-    match addr / 16 % 256 {
-        0 => Some(Register::Control),
-        1 => Some(Register::IntEn),
-        2 => Some(Register::IntFlags),
-        3 => Some(Register::ClkFreq),
-        _ => None,
+    ghost found = { register_at };
+
+    fn owns(word: u32) -> bool {
+        matches!(word, 0x1B00_0000..=0x1B00_0FFF)
     }
-}
 
-// The register that an access to the block reaches, or why there is none.
-pub(crate) fn find(addr: u32) -> Result<Register, Fault>
-    ensures { told result ≡ bus.located addr (spec.owns (word_address addr)) (spec.register_at (word_address addr)) }
-{
-    located(addr, owned(addr), register_at(word_address(addr)))
+    fn at(word: u32) -> Option<Register> {
+        match word / 16 % 256 {
+            0 => Some(Register::Control),
+            1 => Some(Register::IntEn),
+            2 => Some(Register::IntFlags),
+            3 => Some(Register::ClkFreq),
+            _ => None,
+        }
+    }
 }

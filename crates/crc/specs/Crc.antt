@@ -1,5 +1,6 @@
 -- CRC-32C, bit by bit. Assumes nothing.
 use Rattle.std.specs.Prelude.{ℕ, zero, suc, ◌*◌, ◌/◌, ◌%◌, Bool, true, ◌&&◌, List, [], ◌∷◌, ◌==◌, bit_xor}
+use Rattle.std.specs.List.{fold}
 use Rattle.crc.specs.declared.digest.Crc32c.{Crc32c}
 
 -- One bit: the register moves down by one, and takes the polynomial where the bit that left it was 1. The polynomial
@@ -31,8 +32,7 @@ abbrev pub crc_value : Crc32c → ℕ
 crc_value c = bit_xor c.register 0xFFFFFFFF
 
 abbrev pub updated_by : Crc32c → List ℕ → Crc32c
-updated_by c [] = c
-updated_by c (byte ∷ bytes) = updated_by (updated c byte) bytes
+updated_by c bytes = fold updated c bytes
 
 -- the CRC-32C of some bytes
 abbrev pub crc_of : List ℕ → ℕ

@@ -5,7 +5,7 @@ ghost use Rattle.crc.specs.Crc.{no_bytes, updated, crc_value};
 use crate::table::eight_steps;
 
 // The register of the CRC, after the bytes so far.
-#[derive(Clone, Copy)]
+#[derive(Clone, Copy, PartialEq, Eq, Debug)]
 pub struct Crc32c {
     register: u32,
 }
@@ -21,6 +21,7 @@ impl Crc32c {
     }
 
     // Takes one byte more.
+    #[tactic(auto, using(crate::proofs::Linear::by_byte), unfolding(crate::specs::Crc::byte_step))]
     pub fn update(&mut self, byte: u8)
         ensures { self.new ≡ updated self.old byte }
     {

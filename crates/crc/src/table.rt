@@ -263,14 +263,16 @@ const TABLE: [u32; 256] = [
 ];
 
 // The entry of a byte, in a table that is right as a whole.
+#[tactic(auto, using(crate::proofs::Entries::at_place))]
 fn entry(table: &[u32; 256], byte: u8) -> u32
     requires { right 0 table.now ≡ true }
     ensures { result ≡ bit_steps 8 byte }
 {
-    table[byte as usize]
+    table[usize::from(byte)]
 }
 
 // What eight steps make of a register that holds a byte. That the table is right is computed once, for all of it.
+#[tactic(auto, unfolding(crate::specs::Crc::bit_step))]
 pub(crate) fn eight_steps(byte: u8) -> u32
     ensures { result ≡ bit_steps 8 byte }
 {

@@ -62,8 +62,7 @@ impl Lamp {
         if self.is_lit() {
             self.lit_clocks = self.lit_clocks.saturating_add(u64::from(clocks));
         }
-        self.unit.advance(clocks);
-        self.cycle = self.cycle.saturating_add(u64::from(clocks));
+        self.leap(clocks);
         clocks
     }
 

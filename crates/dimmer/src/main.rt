@@ -65,7 +65,7 @@ fn leap(rt: &HostRuntime, lamp: &mut Lamp) -> io::Result<()> {
     }
 }
 
-fn run(rt: &HostRuntime) -> io::Result<()> {
+fn main(rt: HostRuntime) -> io::Result<()> {
     let mut lamp = Lamp::new();
     if let Err(fault) = lamp.configure(&SETTINGS) {
         return println!(rt; "refused, {fault}");
@@ -73,16 +73,12 @@ fn run(rt: &HostRuntime) -> io::Result<()> {
     for clocks in STRIDES {
         let cycle = lamp.cycle();
         println!(rt; "cycle {cycle}: a stride of {clocks}")?;
-        watch(rt, &mut lamp, clocks)?;
+        watch(&rt, &mut lamp, clocks)?;
     }
     let lit = lamp.lit_clocks();
     let cycle = lamp.cycle();
     println!(rt;
         "cycle {cycle}: lit for {lit} clocks; the first period is dark, since a tick loads VALUE"
     )?;
-    leap(rt, &mut lamp)
-}
-
-fn main(rt: HostRuntime) -> io::Result<()> {
-    run(&rt)
+    leap(&rt, &mut lamp)
 }

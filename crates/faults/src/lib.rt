@@ -10,29 +10,29 @@ use std::fmt;
 // What was wrong. A refusal is known by its number.
 #[derive(Clone, Copy, PartialEq, Eq, Debug)]
 pub enum Refusal {
-    TraceFull,
-    Unclaimed,
-    NoRegister,
-    NoInput,
-    LevelsTooHigh,
-    IdTooHigh,
-    NotOnOffer,
-    BadLanes,
-    BridgeStopped,
-    MalformedLine,
-    UnknownVerb,
-    BadField,
-    ListingFull,
+    TraceFull = 1,
+    Unclaimed = 2,
+    NoRegister = 3,
+    NoInput = 4,
+    LevelsTooHigh = 5,
+    IdTooHigh = 6,
+    NotOnOffer = 7,
+    BadLanes = 8,
+    BridgeStopped = 9,
+    MalformedLine = 10,
+    UnknownVerb = 11,
+    BadField = 12,
+    ListingFull = 13,
 }
 
 // Which layer refused. A register may be a peripheral's or the control block's.
 #[derive(Clone, Copy, PartialEq, Eq, Debug)]
 pub enum Layer {
-    Register,
-    Bus,
-    Bench,
-    Script,
-    Printer,
+    Register = 1,
+    Bus = 2,
+    Bench = 3,
+    Script = 4,
+    Printer = 5,
 }
 
 // A refusal, with the layer that it came from and the place: the address as given, the input, the ID, the mask,
@@ -48,26 +48,21 @@ impl Refusal {
     pub fn number(self) -> u8
         ensures { result ≡ refusal_number self }
     {
-        match self {
-            Refusal::TraceFull => 1,
-            Refusal::Unclaimed => 2,
-            Refusal::NoRegister => 3,
-            Refusal::NoInput => 4,
-            Refusal::LevelsTooHigh => 5,
-            Refusal::IdTooHigh => 6,
-            Refusal::NotOnOffer => 7,
-            Refusal::BadLanes => 8,
-            Refusal::BridgeStopped => 9,
-            Refusal::MalformedLine => 10,
-            Refusal::UnknownVerb => 11,
-            Refusal::BadField => 12,
-            Refusal::ListingFull => 13,
-        }
+        self as u8
     }
+}
 
-    // What a fault says, before its place.
-    fn words(self) -> &'static str {
-        match self {
+impl Layer {
+    pub fn number(self) -> u8
+        ensures { result ≡ layer_number self }
+    {
+        self as u8
+    }
+}
+
+impl fmt::Display for Refusal {
+    fn fmt<W: fmt::Write>(&self, f: &mut fmt::Formatter<W>) -> fmt::Result {
+        f.write_str(match self {
             Refusal::TraceFull => "the trace has no room after event",
             Refusal::Unclaimed => "no peripheral claims address",
             Refusal::NoRegister => "no register stands at address",
@@ -81,53 +76,31 @@ impl Refusal {
             Refusal::UnknownVerb => "script line has an unknown verb, at column",
             Refusal::BadField => "script line has a bad field, at column",
             Refusal::ListingFull => "the listing has no room after byte",
-        }
-    }
-}
-
-impl Layer {
-    pub fn number(self) -> u8
-        ensures { result ≡ layer_number self }
-    {
-        match self {
-            Layer::Register => 1,
-            Layer::Bus => 2,
-            Layer::Bench => 3,
-            Layer::Script => 4,
-            Layer::Printer => 5,
-        }
-    }
-
-    fn words(self) -> &'static str {
-        match self {
-            Layer::Register => "register",
-            Layer::Bus => "bus",
-            Layer::Bench => "bench",
-            Layer::Script => "script",
-            Layer::Printer => "printer",
-        }
-    }
-}
-
-impl fmt::Display for Refusal {
-    fn fmt<W: fmt::Write>(&self, f: &mut fmt::Formatter<W>) -> fmt::Result {
-        f.write_str(self.words())
+        })
     }
 }
 
 impl fmt::Display for Layer {
     fn fmt<W: fmt::Write>(&self, f: &mut fmt::Formatter<W>) -> fmt::Result {
-        f.write_str(self.words())
+        f.write_str(match self {
+            Layer::Register => "register",
+            Layer::Bus => "bus",
+            Layer::Bench => "bench",
+            Layer::Script => "script",
+            Layer::Printer => "printer",
+        })
     }
 }
 
 // As in: no register stands at address 0x1B001200 (refusal 3, register).
 impl fmt::Display for Fault {
     fn fmt<W: fmt::Write>(&self, f: &mut fmt::Formatter<W>) -> fmt::Result {
-        let refusal = self.refusal;
+        let Fault {
+            refusal,
+            layer,
+            place,
+        } = *self;
         let number = refusal.number();
-        let layer = self.layer;
-        let place = self.place;
         match refusal {
             Refusal::Unclaimed | Refusal::NoRegister => {
                 write!(f, "{refusal} 0x{place:08X} (refusal {number}, {layer})")

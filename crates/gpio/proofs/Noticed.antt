@@ -1,118 +1,82 @@
 -- What a clock notices, pin by pin. Assumes nothing.
-use Rattle.std.proofs.Common.{◌≡◌, ℕ, zero, suc, ◌/◌, ◌%◌, ◌^◌, ◌<◌, Bool, true, false, cond, not, ◌&&◌, ◌||◌, eqb, ◌⊎◌, Decides, sym, refl, ap, ◌∙◌, ap₂, inl, inr, pow-suc, div-one, arith}
-use native.Mathlib.Nat.{zero-div}
-use lib.Bits.{bit_and, bit_or, bit_xor}
-use Rattle.std.proofs.lemmas.Bool.{eq-eqb, ne_eqb, eqb-true, eqb-false, cases_eq, both_ways, not-true, not_from_false}
-use Rattle.std.proofs.lemmas.Bool.Decides.{Decides-at, Decides-or}
+use Rattle.std.proofs.Common.{◌≡◌, ℕ, zero, suc, ◌/◌, ◌%◌, ◌^◌, ◌<◌, Bool, true, false, if◌then◌else◌, ◌||◌, ◌⊎◌, Decides, sym, refl, ◌∙◌, subst, inl, inr, bit_or, pow-suc, arith}
+use Rattle.std.proofs.lemmas.Bool.{cases_eq, both_ways}
+use Rattle.std.proofs.lemmas.Bool.Decides.{nat_tests, Decides-or}
+use Rattle.std.proofs.lemmas.Grind.{common_steps}
 use Rattle.registers.specs.Bits.{bit}
-use Rattle.registers.proofs.Digits.{bit-bit_and, bit-bit_or, bit-bit_xor, bit_half, differs}
+use Rattle.registers.proofs.Digits.{bit-bit_and, bit-bit_or, bit-bit_xor, bit_half}
 use Rattle.registers.proofs.Accesses.{by_written}
 use Rattle.gpio.specs.declared.Gpio.{Gpio}
 use Rattle.gpio.specs.declared.ports.Port.{Port}
-use Rattle.gpio.specs.Pins.{level, noticed, pins, hits, changed}
-use Rattle.gpio.specs.Ports.{clocked, raised}
-use Rattle.gpio.specs.Law.{SomePin, SomePort, Raises, Flags, Records}
+use Rattle.gpio.specs.Pins.{level, noticed, pins, hits, changed, flag}
+use Rattle.gpio.specs.Ports.{port_of, clocked, raised}
+use Rattle.gpio.specs.Law.{SomePin, SomePort, Raises, Flags, Records, Notices}
 
 -- a pin's state: its latch stands in for its input where DIR is 1
 bit-pins : (p : Port) (k : ℕ) → k < 32 → bit k (pins p) ≡ level p k
 bit-pins p = by_written 0 p.input p.latch p.dir (pins p) refl
 
--- of the state now, the state before, and the two enables
-hit_bit : (l b r f : Bool) → (differs l b && ((l && r) || (b && f))) ≡ ((not b && l && r) || (b && not l && f))
-hit_bit true true r f = refl
-hit_bit true false r f = refl
-hit_bit false true r f = refl
-hit_bit false false r f = refl
-
-pub bit-hits : (p : Port) (k : ℕ) → k < 32 → bit k (hits p) ≡ noticed p k
+bit-hits : (p : Port) (k : ℕ) → k < 32 → bit k (hits p) ≡ noticed p k
 bit-hits p k h =
-    bit-bit_and k (bit_xor (pins p) p.before) (bit_or (bit_and (pins p) p.cnr) (bit_and p.before p.cnf))
-    ∙ ap₂ ◌&&◌
-    (bit-bit_xor k (pins p) p.before ∙ ap (λ l. differs l (bit k p.before)) (bit-pins p k h))
-    (bit-bit_or k (bit_and (pins p) p.cnr) (bit_and p.before p.cnf)
-    ∙ ap₂ ◌||◌ (bit-bit_and k (pins p) p.cnr ∙ ap (λ l. l && bit k p.cnr) (bit-pins p k h)) (bit-bit_and k p.before p.cnf))
-    ∙ hit_bit (level p k) (bit k p.before) (bit k p.cnr) (bit k p.cnf)
+    let e = bit-pins p k h in rw (bit-bit_and, bit-bit_xor, e, bit-bit_or, bit-bit_and k (pins p) p.cnr, e, bit-bit_and) (grind arith)
 
 -- a number of n bits that is not 0 has a bit that is 1
-zero_bit : (k : ℕ) → bit k 0 ≡ true → ⊥
-zero_bit k e = omega (arith, eqb-true (0 / 2 ^ k % 2) 1 e, zero-div (2 ^ k))
-
-odd_or_half : (w : ℕ) → (w ≡ 0 → ⊥) → (w % 2 ≡ 1) ⊎ (w / 2 ≡ 0 → ⊥)
-odd_or_half w z = elim (cases_eq (w % 2) 1) [ inl e ↦ inl e | inr d ↦ inr (λ e. z (omega arith)) ]
-
 some_bit : (n w : ℕ) → w < 2 ^ n → (w ≡ 0 → ⊥) → (k : ℕ) × (k < n) × (bit k w ≡ true)
 some_bit zero w h z = absurd (z (omega arith))
 some_bit (suc n) w h z =
-    elim (odd_or_half w z) [
-      | inl e ↦ (0, omega arith, eq-eqb (w / 1 % 2) 1 (ap (λ x. x % 2) (div-one w) ∙ e))
-      | inr d ↦ let r = some_bit n (w / 2) (omega (arith, pow-suc 2 n)) d in (suc r.0, omega (arith, r.1), sym (bit_half r.0 w) ∙ r.2)
+    elim (cases_eq (w % 2) 1) [
+      | inl e ↦ (0, omega arith, grind (arith, nat_tests))
+      | inr d ↦ let r = some_bit n (w / 2) (omega (arith, pow-suc 2 n)) (λ e. z (omega arith)) in (suc r.0, omega (arith, r.1), sym (bit_half r.0 w) ∙ r.2)
     ]
 
 -- the mask of hits tells whether some pin was noticed
 pub decides_pin : (p : Port) → hits p < 2 ^ 32 → Decides (changed p) (SomePin p)
 decides_pin p h = (
-  λ e. let r = some_bit 32 (hits p) h (eqb-false (hits p) 0 (not-true (eqb (hits p) 0) e)) in
-      (r.0, r.1, sym (bit-hits p r.0 r.1) ∙ r.2),
-  λ r. not_from_false (eqb (hits p) 0) (ne_eqb (hits p) 0 (λ z. zero_bit r.0 (ap (bit r.0) (sym z) ∙ bit-hits p r.0 r.1 ∙ r.2))),
+  λ e. let r = some_bit 32 (hits p) h (grind (arith, nat_tests)) in (r.0, r.1, sym (bit-hits p r.0 r.1) ∙ r.2),
+  λ r. let e : bit r.0 (hits p) ≡ true = bit-hits p r.0 r.1 ∙ r.2 in grind (arith, common_steps),
 )
 
 -- CN_STATE takes the hits in
-port_records : (p : Port) (k : ℕ) → k < 32 → bit k (bit_or p.cn_state (hits p)) ≡ (bit k p.cn_state || noticed p k)
-port_records p k h = bit-bit_or k p.cn_state (hits p) ∙ ap (◌||◌ (bit k p.cn_state)) (bit-hits p k h)
+records : (g : Gpio) → Records g (clocked g)
+records g zero k h j = rw (bit-bit_or, bit-hits g.first k j)
+records g (suc zero) k h j = rw (bit-bit_or, bit-hits g.second k j)
+records g (suc (suc i)) k h j = absurd (omega arith)
 
-pub records : (g : Gpio) → Records g (clocked g)
-records g zero k h j = port_records g.first k j
-records g (suc zero) k h j = port_records g.second k j
-records g (suc (suc i)) k h j = let w : ⊥ = omega arith in absurd w
+-- what is told of each of two: whether some is, and a word that takes a bit in for each
+module _ (P : ℕ → Type 0) (a b : Bool) (x : Decides a (P 0)) (y : Decides b (P 1)) where
+  some : (i : ℕ) × (i < 2) × P i → P 0 ⊎ P 1
+  some (zero, h, p) = inl p
+  some (suc zero, h, p) = inr p
+  some (suc (suc i), h, p) = absurd (omega arith)
 
--- INT_STATUS takes a bit in for each port
-first_flag : (s : ℕ) (a b : Bool) → bit 0 (bit_or (bit_or s (cond a 1 0)) (cond b 2 0)) ≡ (bit 0 s || a)
-first_flag s a b = bit-bit_or 0 (bit_or s (cond a 1 0)) (cond b 2 0) ∙ ap (λ x. x || bit 0 (cond b 2 0)) (bit-bit_or 0 s (cond a 1 0)) ∙ by (bit 0 s) a b
-  where
-    by : (x a b : Bool) → ((x || bit 0 (cond a 1 0)) || bit 0 (cond b 2 0)) ≡ (x || a)
-    by true a b = refl
-    by false true b = refl
-    by false false true = refl
-    by false false false = refl
+  decides_some : Decides (a || b) ((i : ℕ) × (i < 2) × P i)
+  decides_some =
+      let d = Decides-or a b x y in
+      (λ e. elim (d.0 e) [ inl p ↦ (0, omega arith, p) | inr p ↦ (1, omega arith, p) ], λ r. d.1 (some r))
 
-second_flag : (s : ℕ) (a b : Bool) → bit 1 (bit_or (bit_or s (cond a 1 0)) (cond b 2 0)) ≡ (bit 1 s || b)
-second_flag s a b = bit-bit_or 1 (bit_or s (cond a 1 0)) (cond b 2 0) ∙ ap (λ x. x || bit 1 (cond b 2 0)) (bit-bit_or 1 s (cond a 1 0)) ∙ by (bit 1 s) a b
-  where
-    by : (x a b : Bool) → ((x || bit 1 (cond a 1 0)) || bit 1 (cond b 2 0)) ≡ (x || b)
-    by true a b = refl
-    by false true true = refl
-    by false true false = refl
-    by false false true = refl
-    by false false false = refl
+  decides_each : (s i : ℕ) → i < 2 → Decides (bit i (bit_or (bit_or s (if a then 1 else 0)) (if b then 2 else 0))) ((bit i s ≡ true) ⊎ P i)
+  decides_each s zero h = rw (bit-bit_or, bit-bit_or) (grind (arith, x, y))
+  decides_each s (suc zero) h = rw (bit-bit_or, bit-bit_or) (grind (arith, x, y))
+  decides_each s (suc (suc i)) h = absurd (omega arith)
+
+raises_by : (g : Gpio) (b : Bool) → Decides b (SomePort g) → Raises g (if b then 128 else 0)
+raises_by g true d = inl (refl, d.0 refl)
+raises_by g false d = inr (refl, λ r. both_ways false refl (d.1 r))
 
 module _ (g : Gpio) (x : Decides (changed g.first) (SomePin g.first)) (y : Decides (changed g.second) (SomePin g.second)) where
-  pub flags : Flags g (clocked g)
-  flags zero h =
-      Decides-at (bit 0 (clocked g).int_status) (bit 0 g.int_status || changed g.first)
-      (first_flag g.int_status (changed g.first) (changed g.second))
-      (Decides-or (bit 0 g.int_status) (changed g.first) (λ e. e, λ e. e) x)
-  flags (suc zero) h =
-      Decides-at (bit 1 (clocked g).int_status) (bit 1 g.int_status || changed g.second)
-      (second_flag g.int_status (changed g.first) (changed g.second))
-      (Decides-or (bit 1 g.int_status) (changed g.second) (λ e. e, λ e. e) y)
-  flags (suc (suc i)) h = let w : ⊥ = omega arith in absurd w
+  abbrev pins_of : ℕ → Type 0
+  pins_of i = SomePin (port_of g i)
 
-  -- some port is one of the two
-  which : SomePort g → SomePin g.first ⊎ SomePin g.second
-  which (zero, h, r) = inl r
-  which (suc zero, h, r) = inr r
-  which (suc (suc i), h, r) = let w : ⊥ = omega arith in absurd w
+  pub flags : {a b : ℕ} → a ≡ flag g.first 1 → b ≡ flag g.second 2 → Flags g (record { first = g.first; second = g.second; int_status = bit_or (bit_or g.int_status a) b })
+  flags p q = rw (p, q) (decides_each pins_of (changed g.first) (changed g.second) x y g.int_status)
 
-  either : Decides (changed g.first || changed g.second) (SomePin g.first ⊎ SomePin g.second)
-  either = Decides-or (changed g.first) (changed g.second) x y
+  pub raises : (mask : ℕ) → mask ≡ raised g → Raises g mask
+  raises mask e = rw e (raises_by g (changed g.first || changed g.second) (decides_some pins_of (changed g.first) (changed g.second) x y))
 
-  of_either : SomePin g.first ⊎ SomePin g.second → SomePort g
-  of_either (inl r) = (0, omega arith, r)
-  of_either (inr r) = (1, omega arith, r)
-
-  raises_by : (b : Bool) → (b ≡ true → SomePin g.first ⊎ SomePin g.second) → (SomePin g.first ⊎ SomePin g.second → b ≡ true) → Raises g (cond b 128 0)
-  raises_by true p q = inl (refl, of_either (p refl))
-  raises_by false p q = inr (refl, λ r. both_ways false refl (q (which r)))
-
-  pub raises : Raises g (raised g)
-  raises = raises_by (changed g.first || changed g.second) either.0 either.1
+pub notices : (g new : Gpio) (n mask : ℕ) → 0 < n → new ≡ clocked g → Flags g new → Raises g mask → Notices g n new mask
+notices g new n mask h e f r = record {
+  none = λ z. absurd (omega arith);
+  pins = λ _. subst (Records g) (sym e) (records g);
+  flags = λ _. f;
+  raise = λ _. r;
+}

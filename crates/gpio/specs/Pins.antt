@@ -1,5 +1,5 @@
 -- One port: its pins, and what a clock, a reset and an access leave of it. Assumes nothing.
-use Rattle.std.specs.Prelude.{ℕ, Bool, cond, not, ◌&&◌, ◌||◌, ◌==◌, bit_and, bit_or, bit_xor}
+use Rattle.std.specs.Prelude.{ℕ, Bool, if◌then◌else◌, not, ◌&&◌, ◌||◌, ◌==◌, bit_and, bit_or, bit_xor}
 use Rattle.registers.specs.Bits.{bit, without}
 use Rattle.registers.specs.Writes as access
 use Rattle.gpio.specs.declared.ports.Port.{Port}
@@ -10,7 +10,7 @@ use Rattle.gpio.specs.declared.map.PortRegister.TheVariants.{Pins, Latch, Dir, C
 
 -- its state: its latch where DIR is 1, else its input
 abbrev pub level : Port → ℕ → Bool
-level p k = cond (bit k p.dir) (bit k p.latch) (bit k p.input)
+level p k = if bit k p.dir then bit k p.latch else bit k p.input
 
 -- since the last clock it went from 0 to 1, or from 1 to 0
 abbrev pub rose : Port → ℕ → Bool
@@ -38,7 +38,7 @@ abbrev pub changed : Port → Bool
 changed p = not (hits p == 0)
 
 abbrev pub flag : Port → ℕ → ℕ
-flag p b = cond (changed p) b 0
+flag p b = if changed p then b else 0
 
 abbrev pub clocked : Port → Port
 clocked p = record { latch = p.latch; dir = p.dir; cnr = p.cnr; cnf = p.cnf; cn_state = bit_or p.cn_state (hits p); input = p.input; before = pins p }

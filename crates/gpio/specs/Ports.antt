@@ -1,5 +1,5 @@
 -- Both ports, and the interrupt that they share. Assumes nothing.
-use Rattle.std.specs.Prelude.{ℕ, cond, ◌||◌, ◌==◌, bit_or}
+use Rattle.std.specs.Prelude.{ℕ, if◌then◌else◌, ◌||◌, ◌==◌, bit_or}
 use Rattle.registers.specs.Writes as access
 use Rattle.gpio.specs.declared.Gpio.{Gpio}
 use Rattle.gpio.specs.declared.ports.Port.{Port}
@@ -9,10 +9,10 @@ use Rattle.gpio.specs.Pins as pins
 
 -- the port of a number, and the GPIO with another port there
 abbrev pub port_of : Gpio → ℕ → Port
-port_of g i = cond (i == 0) g.first g.second
+port_of g i = if i == 0 then g.first else g.second
 
 abbrev pub with_port : Gpio → ℕ → Port → Gpio
-with_port g i p = record { first = cond (i == 0) p g.first; second = cond (i == 0) g.second p; int_status = g.int_status }
+with_port g i p = record { first = if i == 0 then p else g.first; second = if i == 0 then g.second else p; int_status = g.int_status }
 
 abbrev pub word : Gpio → Register → ℕ
 word g (OfPort i r) = pins.word (port_of g i) r
@@ -32,11 +32,11 @@ clocked g = record {
 
 -- and raises interrupt 15, which is bit 7
 abbrev pub raised : Gpio → ℕ
-raised g = cond (pins.changed g.first || pins.changed g.second) 128 0
+raised g = if pins.changed g.first || pins.changed g.second then 128 else 0
 
 -- with nothing to raise it stays quiet for ever; otherwise the next clock is an event
 abbrev pub calm : Gpio → ℕ
-calm g = cond (raised g == 0) 4294967295 0
+calm g = if raised g == 0 then 4294967295 else 0
 
 abbrev pub cleared : Gpio → Gpio
 cleared g = record { first = pins.cleared g.first; second = pins.cleared g.second; int_status = 0 }

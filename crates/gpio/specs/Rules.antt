@@ -1,12 +1,11 @@
 -- The GPIO as a model. Assumes nothing.
-use Rattle.std.specs.Prelude.{ℕ, ◌^◌, ◌<◌, Bool, true, false, cond, ◌||◌, List, [], ◌∷◌, IfSome, Some, None, Option, nat_lt, slice_index, refl}
+use Rattle.std.specs.Prelude.{ℕ, ◌||◌, List, [], ◌∷◌, nat_lt, slice_index, refl}
 use Rattle.std.proofs.Common.{lit<}
-use Rattle.std.specs.Option.{option_map}
 use Rattle.registers.specs.Aliases.{alias_at}
 use Rattle.registers.specs.Bits.{lane_bits}
-use Rattle.registers.specs.Writes.{shown}
 use Rattle.peripheral.specs.Model.{Model, Keeps}
-use Rattle.peripheral.specs.Rules.{Rules, Coded, model_of, keeps_of}
+use Rattle.peripheral.specs.Block.{shown_at, put_at}
+use Rattle.peripheral.specs.Rules.{Rules, Coded, model_of, Any, all_good, mask_fits, keeps_of}
 use Rattle.gpio.specs.declared.Gpio.{Gpio}
 use Rattle.gpio.specs.declared.map.Register.{Register}
 use Rattle.gpio.specs.Map.{owns, register_at}
@@ -27,6 +26,10 @@ decode s = record {
   int_status = slice_index s 14;
 }
 
+-- a write by the alias k, of v under lanes l
+abbrev pub after_write : Gpio → ℕ → ℕ → ℕ → Register → Gpio
+after_write g k v l r = written g r k v (lane_bits l)
+
 -- input i feeds port i; the outputs are LATCH 0, DIR 0, LATCH 1, DIR 1
 abbrev pub rules : Rules Gpio
 rules = record {
@@ -34,8 +37,8 @@ rules = record {
   encode = encode;
   decode = decode;
   claims = owns;
-  read = λ g a. option_map (λ r. shown (alias_at a) (word g r)) (register_at a);
-  write = λ g a v l. option_map (λ r. written g r (alias_at a) v (lane_bits l)) (register_at a);
+  read = shown_at register_at word;
+  write = put_at register_at after_write;
   input = λ i. nat_lt i 2;
   feed = λ g i v. with_port g i (fed (port_of g i) v);
   clock = clocked;
@@ -57,27 +60,15 @@ spare_in g = []
 
 -- ---- it keeps its rules
 
--- any values will do
-abbrev Any : Gpio → Type 0
-Any g = Unit {0}
-
-any_written : (f : Register → Gpio) (o : Option Register) → IfSome (option_map f o) Any
-any_written f (Some r) = tt
-any_written f None = tt
-
-mask_of : (b : Bool) → cond b 128 0 < 2 ^ 16
-mask_of true = lit< tt
-mask_of false = lit< tt
-
 pub coded : Coded rules Any
 coded = record {
   decoded = λ s h. tt;
   back = λ g _. refl;
   sized = λ g _. refl;
-  write = λ g a v l _. any_written (λ r. written g r (alias_at a) v (lane_bits l)) (register_at a);
+  write = λ g a v l _. all_good Any (after_write g (alias_at a) v l) (register_at a) (λ _. tt);
   feed = λ g i v _. tt;
   clock = λ g _. tt;
-  raised = λ g _. mask_of (changed g.first || changed g.second);
+  raised = λ g _. mask_fits (changed g.first || changed g.second) 128 (lit< tt);
   outputs = λ g _. refl;
   reset = λ g _. tt;
 }

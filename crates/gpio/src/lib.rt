@@ -2,16 +2,15 @@
 #![tactic(auto)]
 
 ghost use Rattle.std.specs.Prelude.{◌≡◌, replicate, refl};
-ghost use Rattle.registers.specs.Aliases.{alias_number};
 ghost use Rattle.peripheral.specs.Model.{Quiet, Largest, clocks, raises};
 ghost use Rattle.gpio.specs.Ports as ports;
-ghost use Rattle.gpio.specs.Rules.{encode, gpio_model, model_in, spare_in, gpio_keeps};
+ghost use Rattle.gpio.specs.Rules.{after_write, encode, gpio_model, model_in, spare_in, gpio_keeps};
 ghost use Rattle.gpio.specs.Law.{Notices, Raises, Flags};
 
-use map::{Register, claimed, find};
-use peripheral::{Fault, Peripheral, fill};
+use map::Register;
+use peripheral::{Fault, Peripheral, RegisterBlock, RegisterMap, fill};
 use ports::Port;
-use registers::{Alias, Lanes};
+use registers::{Lanes, Write};
 
 mod map;
 mod ports;
@@ -39,52 +38,6 @@ impl Gpio {
         }
     }
 
-    fn port(self, number: u32) -> Port
-        ensures { result ≡ ports.port_of self number }
-    {
-        if number == 0 { self.first } else { self.second }
-    }
-
-    fn with_port(self, number: u32, port: Port) -> Gpio
-        ensures { result ≡ ports.with_port self number port }
-    {
-        if number == 0 {
-            Gpio {
-                first: port,
-                ..self
-            }
-        } else {
-            Gpio {
-                second: port,
-                ..self
-            }
-        }
-    }
-
-    fn word(self, register: Register) -> u32
-        ensures { result ≡ ports.word self register }
-    {
-        match register {
-            Register::OfPort(number, register) => self.port(number).word(register),
-            Register::IntStatus => self.int_status,
-        }
-    }
-
-    fn written(self, register: Register, alias: Alias, value: u32, mask: u32) -> Gpio
-        ensures { result ≡ ports.written self register (alias_number alias) value mask }
-    {
-        match register {
-            Register::OfPort(number, register) => {
-                let port = self.port(number).written(register, alias, value, mask);
-                self.with_port(number, port)
-            }
-            Register::IntStatus => Gpio {
-                int_status: alias.clear(self.int_status, value, mask),
-                ..self
-            },
-        }
-    }
-
     fn clocked(self) -> Gpio
         ensures value { result ≡ ports.clocked self }
         ensures flags { Flags self result }
@@ -107,6 +60,34 @@ impl Gpio {
     }
 }
 
+impl RegisterBlock for Gpio {
+    type Register = Register;
+
+    type Content = Gpio;
+
+    ghost content = { λ x. x };
+
+    ghost word_of = { ports.word };
+
+    ghost after_write = { after_write };
+
+    fn word(&self, register: Register) -> u32 {
+        match register {
+            Register::OfPort(0, register) => self.first.word(register),
+            Register::OfPort(_, register) => self.second.word(register),
+            Register::IntStatus => self.int_status,
+        }
+    }
+
+    fn put(&mut self, register: Register, write: Write) {
+        match register {
+            Register::OfPort(0, register) => self.first.put(register, write),
+            Register::OfPort(_, register) => self.second.put(register, write),
+            Register::IntStatus => self.int_status = write.clear(self.int_status),
+        }
+    }
+}
+
 impl Peripheral for Gpio {
     ghost model = { model_in };
 
@@ -121,18 +102,15 @@ impl Peripheral for Gpio {
     ghost sized = { λ _. refl };
 
     fn claims(&self, addr: u32) -> bool {
-        claimed(addr)
+        Register::claims(addr)
     }
 
     fn read(&self, addr: u32) -> Result<u32, Fault> {
-        let register = find(addr)?;
-        Ok(Alias::at(addr).read(self.word(register)))
+        self.read_at(addr)
     }
 
     fn write(&mut self, addr: u32, value: u32, lanes: Lanes) -> Result<(), Fault> {
-        let register = find(addr)?;
-        *self = self.written(register, Alias::at(addr), value, lanes.bits());
-        Ok(())
+        self.write_at(addr, value, lanes)
     }
 
     fn has_input(&self, input: u32) -> bool {
@@ -140,13 +118,15 @@ impl Peripheral for Gpio {
     }
 
     fn feed(&mut self, input: u32, value: u32) {
-        if input < 2 {
-            let port = self.port(input).fed(value);
-            *self = self.with_port(input, port);
+        match input {
+            0 => self.first.feed(value),
+            1 => self.second.feed(value),
+            _ => {}
         }
     }
 
     // The first clock notices the pins that changed; the pins then stay, so more clocks notice nothing.
+    #[tactic(auto, using(crate::proofs::Noticed::notices), unfolding(peripheral::specs::Model::steps, peripheral::specs::Model::union))]
     fn advance(&mut self, n: u32) -> u16
         ensures same { model_in self.new ≡ model_in self.old }
         ensures spare { spare_in self.new ≡ spare_in self.old }

@@ -1,14 +1,15 @@
 // One port: 32 pins, each an input or an output.
 ghost use Rattle.std.specs.Prelude.{◌≡◌, Decides};
 ghost use Rattle.registers.specs.Aliases.{alias_number};
+ghost use Rattle.registers.specs.Bits.{lane_bits};
 ghost use Rattle.gpio.specs.Pins as spec;
 ghost use Rattle.gpio.specs.Law.{SomePin};
 
 use crate::map::PortRegister;
-use registers::Alias;
+use registers::Write;
 
 // The registers of a port, the word on its input, and the pins as they were at the last clock.
-#[derive(Clone, Copy)]
+#[derive(Clone, Copy, Default)]
 pub struct Port {
     latch: u32,
     dir: u32,
@@ -23,15 +24,7 @@ impl Port {
     pub(crate) fn new() -> Port
         ensures { result ≡ spec.fresh 0 0 }
     {
-        Port {
-            latch: 0,
-            dir: 0,
-            cnr: 0,
-            cnf: 0,
-            cn_state: 0,
-            input: 0,
-            before: 0,
-        }
+        Port::default()
     }
 
     pub(crate) fn latch(self) -> u32
@@ -47,6 +40,7 @@ impl Port {
     }
 
     // The state of each pin: its latch where it is an output, else its input.
+    #[tactic(auto, using(registers::proofs::Digits::complement))]
     fn pins(self) -> u32
         ensures { result ≡ spec.pins self }
     {
@@ -62,6 +56,7 @@ impl Port {
     }
 
     // Whether any did.
+    #[tactic(auto, using(crate::proofs::Noticed::decides_pin))]
     pub(crate) fn changed(self) -> bool
         ensures value { result ≡ spec.changed self }
         ensures some { Decides (spec.changed self) (SomePin self) }
@@ -87,17 +82,20 @@ impl Port {
         }
     }
 
-    pub(crate) fn fed(self, input: u32) -> Port
-        ensures { result ≡ spec.fed self input }
+    pub(crate) fn feed(&mut self, input: u32)
+        ensures { self.new ≡ spec.fed self.old input }
     {
-        Port { input, ..self }
+        self.input = input;
     }
 
     // A reset keeps the input, and takes the pins as they then are.
     pub(crate) fn cleared(self) -> Port
         ensures { result ≡ spec.cleared self }
     {
-        let port = Port::new().fed(self.input);
+        let port = Port {
+            input: self.input,
+            ..Port::new()
+        };
         Port {
             before: port.pins(),
             ..port
@@ -118,30 +116,15 @@ impl Port {
     }
 
     // Any write to the pins acts on the latch.
-    pub(crate) fn written(self, register: PortRegister, alias: Alias, value: u32, mask: u32) -> Port
-        ensures { result ≡ spec.written self register (alias_number alias) value mask }
+    pub(crate) fn put(&mut self, register: PortRegister, write: Write)
+        ensures { self.new ≡ spec.written self.old register (alias_number write.alias) write.value (lane_bits write.lanes.mask) }
     {
         match register {
-            PortRegister::Pins | PortRegister::Latch => Port {
-                latch: alias.write(self.latch, value, mask),
-                ..self
-            },
-            PortRegister::Dir => Port {
-                dir: alias.write(self.dir, value, mask),
-                ..self
-            },
-            PortRegister::Cnr => Port {
-                cnr: alias.write(self.cnr, value, mask),
-                ..self
-            },
-            PortRegister::Cnf => Port {
-                cnf: alias.write(self.cnf, value, mask),
-                ..self
-            },
-            PortRegister::CnState => Port {
-                cn_state: alias.clear(self.cn_state, value, mask),
-                ..self
-            },
+            PortRegister::Pins | PortRegister::Latch => self.latch = write.apply(self.latch),
+            PortRegister::Dir => self.dir = write.apply(self.dir),
+            PortRegister::Cnr => self.cnr = write.apply(self.cnr),
+            PortRegister::Cnf => self.cnf = write.apply(self.cnf),
+            PortRegister::CnState => self.cn_state = write.clear(self.cn_state),
         }
     }
 }

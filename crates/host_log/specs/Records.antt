@@ -1,9 +1,9 @@
 -- A log: slots, of which the first hold records. Assumes nothing.
-use Rattle.std.specs.Prelude.{cond, List, [], ◌∷◌, ℕ, ◌+◌, nat_lt, length, slice_set}
+use Rattle.std.specs.Prelude.{if◌then◌else◌, List, ℕ, ◌+◌, nat_lt, length, slice_set, fold}
 
 -- how many of so many slots are used after a push: one more, where one is free
 abbrev pub count : ℕ → ℕ → ℕ
-count slots used = cond (nat_lt used slots) (used + 1) used
+count slots used = if nat_lt used slots then used + 1 else used
 
 pub record Held (T : Type 0) : Type 0 where
   pub slots : List T
@@ -15,5 +15,4 @@ pushed h x = record { slots = slice_set h.slots h.used x; used = count (length h
 
 -- several, one after the other
 abbrev pub appended : {T : Type 0} → Held T → List T → Held T
-appended h [] = h
-appended h (x ∷ xs) = appended (pushed h x) xs
+appended = fold pushed

@@ -1,45 +1,42 @@
 // Records, one after the other, in memory that the host lends.
 #![tactic(auto)]
 
-ghost use Rattle.std.specs.Prelude.{◌≡◌, ◌-◌, min, nat_lt, length, take, slice_set};
-ghost use Rattle.host_log.specs.Records.{count};
+ghost use Rattle.std.specs.Prelude.{◌≡◌, ◌-◌, ◌<◌, ◌≤◌, ◌↔◌, [], ◌∷◌, IsTrue, min, length, take};
 
-// The first slots hold the records so far. `used` never passes the number of slots, which the type cannot say: a method
-// that needs it asks again.
+// The first slots hold the records so far.
 #[derive(Drop)]
 pub struct Log<'a, T> {
     slots: &'a mut [T],
     used: usize,
+    ghost within: { used ≤ length slots.now },
 }
 
 impl<'a, T: Copy> Log<'a, T> {
+    ghost use Rattle.host_log.specs.Lent.{Appends};
+
     // A log with no records.
     pub fn new(slots: &'a mut [T]) -> Log<'a, T>
-        ensures slots { result.slots.now ≡ slots.old }
+        ensures slots { result.slots ≡ slots.entry }
         ensures used { result.used ≡ 0 }
-        ensures lent { result.slots.ghost_name ≡ slots.entry.ghost_name }
     {
         Log { slots, used: 0 }
     }
 
     // A log that goes on after so many records, or after all where there are fewer slots.
     pub fn resume(slots: &'a mut [T], used: usize) -> Log<'a, T>
-        ensures slots { result.slots.now ≡ slots.old }
+        ensures slots { result.slots ≡ slots.entry }
         ensures used { result.used ≡ min used (length slots.old) }
-        ensures lent { result.slots.ghost_name ≡ slots.entry.ghost_name }
     {
         let used = used.min(slots.len());
         Log { slots, used }
     }
 
-    // Adds a record, and says whether there was room. A full log stays as it is: `slice_set` past the end changes nothing.
+    // Adds a record, and says whether there was room. A full log stays as it is.
     pub fn push(&mut self, record: T) -> bool
-        ensures slots { self.new.slots.now ≡ slice_set self.old.slots.now self.old.used «record» }
-        ensures used { self.new.used ≡ count (length self.old.slots.now) self.old.used }
-        ensures room { result ≡ nat_lt self.old.used (length self.old.slots.now) }
-        ensures lent { self.new.slots.ghost_name ≡ self.old.slots.ghost_name }
+        ensures appends { Appends self.old self.new («record» ∷ []) }
+        ensures room { IsTrue result ↔ (self.old.used < length self.old.slots.now) }
     {
-        if self.used >= self.slots.len() {
+        if self.free() == 0 {
             return false;
         }
         self.slots[self.used] = record;
@@ -58,13 +55,13 @@ impl<'a, T: Copy> Log<'a, T> {
     pub fn free(&self) -> usize
         ensures { result ≡ length self.now.slots.now - self.now.used }
     {
-        self.slots.len().saturating_sub(self.used)
+        self.slots.len() - self.used
     }
 
     // The records so far.
     pub fn records(&self) -> &[T]
         ensures { result.now ≡ take self.now.used self.now.slots.now }
     {
-        &self.slots[..self.used.min(self.slots.len())]
+        &self.slots[..self.used]
     }
 }

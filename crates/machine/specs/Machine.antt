@@ -1,5 +1,5 @@
 -- The bench, one clock at a time: what each call answers, leaves and records. Assumes nothing.
-use Rattle.std.specs.Prelude.{ℕ, zero, suc, ◌+◌, ◌-◌, ◌^◌, Bool, cond, ◌&&◌, List, [], ◌∷◌, ◌++◌, length, take, Ok, Err, Result, ◌==◌, nat_le, nat_lt}
+use Rattle.std.specs.Prelude.{ℕ, zero, suc, ◌+◌, ◌-◌, ◌^◌, Bool, if◌then◌else◌, ◌&&◌, List, [], ◌∷◌, ◌++◌, length, take, Ok, Err, Result, ◌==◌, nat_le, nat_lt}
 use Rattle.faults.specs.declared.Refusal.{Refusal}
 use Rattle.faults.specs.declared.Refusal.TheVariants.{TraceFull, NoInput, LevelsTooHigh, IdTooHigh, NotOnOffer, BadLanes, BridgeStopped}
 use Rattle.faults.specs.declared.Layer.TheVariants.{Bench}
@@ -12,7 +12,9 @@ use Rattle.serial.specs.Upload as upload
 use Rattle.serial.specs.declared.bridge.Bridge.TheVariants as bridge
 use Rattle.trace.specs.declared.events.Event.{Event}
 use Rattle.trace.specs.declared.events.Kind.TheVariants as kind
-use Rattle.trace.specs.Events.{event, if_changed, output_events}
+use Rattle.trace.specs.declared.view.View.{View}
+use Rattle.trace.specs.Events.{event}
+use Rattle.trace.specs.Views.{between}
 use Rattle.board.specs.declared.state.Board.{Board}
 use Rattle.board.specs.Map.{owns}
 use Rattle.board.specs.Control.{holding, leveled, bridged, later, read_control, write_control, kept_board, offer, core_word, resets, powered, reset_board, flagged}
@@ -38,13 +40,14 @@ free x = x.room - x.used
 abbrev pub start : Model → List ℕ → ℕ → Session
 start m s room = record { board = powered; state = m.reset s; used = 0; room = room }
 
--- ---- what changed between two moments: the first 32 output words, the core word, the offer
+-- ---- what changed between two moments
+
+-- what a host can see: the first 32 output words, the core word, the offer; words past the last one tell nothing
+abbrev pub seen : Model → Board → List ℕ → View
+seen m b s = record { words = take 32 (m.outputs s); core = core_word b; offer = offer b }
 
 abbrev pub changes : Model → Board → List ℕ → Board → List ℕ → List Event
-changes m b s b' s' =
-    output_events b'.cycle 0 (take 32 (m.outputs s)) (take 32 (m.outputs s'))
-    ++ (if_changed (core_word b) (core_word b') (event b'.cycle kind.Output 32 (core_word b') 0 0)
-    ++ if_changed (offer b) (offer b') (event b'.cycle kind.Offer 0 (offer b') 0 0))
+changes m b s b' s' = between b'.cycle (seen m b s) (seen m b' s')
 
 -- the session with more events written
 abbrev pub moved : Session → Board → List ℕ → List Event → Session
@@ -53,17 +56,17 @@ moved x b s es = record { board = b; state = s; used = x.used + length es; room 
 -- ---- the bus: the control block is asked before the peripherals
 
 abbrev pub bus_read : Model → Board → List ℕ → ℕ → Result ℕ Code
-bus_read m b s a = cond (owns (word_address a)) (read_control b a) (read_at m s a)
+bus_read m b s a = if owns (word_address a) then read_control b a else read_at m s a
 
 -- whether a write is refused, and what it leaves
 abbrev pub bus_write : Model → Board → List ℕ → ℕ → ℕ → ℕ → Result (Unit {0}) Code
-bus_write m b s a v l = cond (owns (word_address a)) (done (write_control b a v l)) (done (write_at m s a v l))
+bus_write m b s a v l = if owns (word_address a) then done (write_control b a v l) else done (write_at m s a v l)
 
 abbrev pub board_written : Board → ℕ → ℕ → ℕ → Board
-board_written b a v l = cond (owns (word_address a)) (kept_board b (write_control b a v l)) b
+board_written b a v l = if owns (word_address a) then kept_board b (write_control b a v l) else b
 
 abbrev pub state_written : Model → List ℕ → ℕ → ℕ → ℕ → List ℕ
-state_written m s a v l = cond (owns (word_address a)) s (kept s (write_at m s a v l))
+state_written m s a v l = if owns (word_address a) then s else kept s (write_at m s a v l)
 
 -- ---- a byte for the serial bridge
 
@@ -93,21 +96,21 @@ upload_board b u (Err f) = bridged b bridge.Stopped
 
 -- the reply to a byte, 256 for none, and what the byte leaves, where the bridge has taken it and the board is b
 abbrev pub byte_reply : Model → Board → List ℕ → upload.Answer → ℕ
-byte_reply m b s u = cond (is_write u) (upload_reply (uploads m b s u)) (cond (u.kind == 2) u.value 256)
+byte_reply m b s u = if is_write u then upload_reply (uploads m b s u) else if u.kind == 2 then u.value else 256
 
 abbrev pub byte_board : Model → Board → List ℕ → upload.Answer → Board
-byte_board m b s u = cond (is_write u) (upload_board b u (uploads m b s u)) b
+byte_board m b s u = if is_write u then upload_board b u (uploads m b s u) else b
 
 abbrev pub byte_state : Model → List ℕ → upload.Answer → List ℕ
-byte_state m s u = cond (is_write u) (state_written m s u.address u.value 15) s
+byte_state m s u = if is_write u then state_written m s u.address u.value 15 else s
 
 -- ---- one clock: with SOCRES set only a reset happens
 
 abbrev pub tick_board : Model → Board → List ℕ → Board
-tick_board m b s = cond (resets b) (reset_board (later b 1)) (flagged (later b 1) (m.raised s))
+tick_board m b s = if resets b then reset_board (later b 1) else flagged (later b 1) (m.raised s)
 
 abbrev pub tick_state : Model → Board → List ℕ → List ℕ
-tick_state m b s = cond (resets b) (m.reset s) (m.clock s)
+tick_state m b s = if resets b then m.reset s else m.clock s
 
 abbrev pub tick_events : Model → Board → List ℕ → List Event
 tick_events m b s = changes m b s (tick_board m b s) (tick_state m b s)
@@ -126,7 +129,7 @@ passes x = nat_lt x.board.cycle last_cycle && nat_le 34 (free x)
 
 -- why a run stops short: the last cycle comes before the trace
 abbrev pub cut_by : Session → ℕ
-cut_by x = cond (nat_lt x.board.cycle last_cycle) (stop_number stop.TraceFull) (stop_number stop.LastCycle)
+cut_by x = stop_number (if nat_lt x.board.cycle last_cycle then stop.TraceFull else stop.LastCycle)
 
 -- what a run gives: the clocks that passed, why no more did, and the rest as for any call
 pub record Ran : Type 0 where
@@ -138,14 +141,12 @@ pub record Ran : Type 0 where
 abbrev pub run : Model → ℕ → Session → Ran
 run m zero x = record { clocks = 0; stop = stop_number stop.Whole; session = x; events = [] }
 run m (suc n) x =
-    cond (passes x)
-    (record {
+    if passes x then record {
       clocks = (run m n (tick m x)).clocks + 1;
       stop = (run m n (tick m x)).stop;
       session = (run m n (tick m x)).session;
       events = tick_events m x.board x.state ++ (run m n (tick m x)).events;
-    })
-    (record { clocks = 0; stop = cut_by x; session = x; events = [] })
+    } else record { clocks = 0; stop = cut_by x; session = x; events = [] }
 
 -- ---- the calls
 
@@ -173,7 +174,7 @@ fault r place = record { refusal = refusal_number r; layer = layer_number Bench;
 
 -- an accepted call writes at most 35 events
 abbrev pub room_for : Session → Result (Unit {0}) Code
-room_for x = cond (nat_lt (free x) 35) (Err (fault TraceFull x.used)) (Ok tt)
+room_for x = if nat_lt (free x) 35 then Err (fault TraceFull x.used) else Ok tt
 
 -- goes on where a check was passed, or hands its fault on
 abbrev pub and_then : {A : Type 0} → Session → Result A Code → (A → Step) → Step
@@ -191,28 +192,28 @@ perform m x (call.Read a) =
     if_room x (and_then x (bus_read m x.board x.state a)
     (λ w. accepts m x (word_code w) (event x.board.cycle kind.Read a 0 0 w) x.board x.state))
 perform m x (call.Write a v l) =
-    cond (nat_lt 15 l) (refuses x (fault BadLanes l))
-    (if_room x (and_then x (bus_write m x.board x.state a v l)
-    (λ _. accepts m x done_code (event x.board.cycle kind.Write a v l 0) (board_written x.board a v l) (state_written m x.state a v l))))
+    if nat_lt 15 l then refuses x (fault BadLanes l)
+    else if_room x (and_then x (bus_write m x.board x.state a v l)
+    (λ _. accepts m x done_code (event x.board.cycle kind.Write a v l 0) (board_written x.board a v l) (state_written m x.state a v l)))
 perform m x (call.Pin i v) =
-    cond (m.input i)
-    (if_room x (accepts m x done_code (event x.board.cycle kind.Pin i v 0 0) x.board (m.feed x.state i v)))
-    (refuses x (fault NoInput i))
+    if m.input i
+    then if_room x (accepts m x done_code (event x.board.cycle kind.Pin i v 0 0) x.board (m.feed x.state i v))
+    else refuses x (fault NoInput i)
 perform m x (call.Trigger l) =
-    cond (nat_lt 65535 l) (refuses x (fault LevelsTooHigh l))
-    (if_room x (accepts m x done_code (event x.board.cycle kind.Trigger 0 l 0 0) (leveled x.board l) x.state))
+    if nat_lt 65535 l then refuses x (fault LevelsTooHigh l)
+    else if_room x (accepts m x done_code (event x.board.cycle kind.Trigger 0 l 0 0) (leveled x.board l) x.state)
 perform m x (call.Acknowledge i) =
-    cond (nat_lt 31 i) (refuses x (fault IdTooHigh i))
-    (cond (offer x.board == i)
-    (if_room x (accepts m x done_code (event x.board.cycle kind.Acknowledge i 0 0 0)
-    (holding x.board x.board.control x.board.enable (without x.board.flags (2 ^ i))) x.state))
-    (refuses x (fault NotOnOffer i)))
+    if nat_lt 31 i then refuses x (fault IdTooHigh i)
+    else if offer x.board == i
+    then if_room x (accepts m x done_code (event x.board.cycle kind.Acknowledge i 0 0 0)
+    (holding x.board x.board.control x.board.enable (without x.board.flags (2 ^ i))) x.state)
+    else refuses x (fault NotOnOffer i)
 perform m x (call.Byte v) =
-    cond (upload.is_stopped x.board.bridge) (refuses x (fault BridgeStopped 0))
-    (if_room x (accepts m x (reply_code (byte_reply m (taken x.board v) x.state (asked x.board v)))
+    if upload.is_stopped x.board.bridge then refuses x (fault BridgeStopped 0)
+    else if_room x (accepts m x (reply_code (byte_reply m (taken x.board v) x.state (asked x.board v)))
     (event x.board.cycle kind.Byte 0 v 0 (byte_reply m (taken x.board v) x.state (asked x.board v)))
     (byte_board m (taken x.board v) x.state (asked x.board v))
-    (byte_state m x.state (asked x.board v))))
+    (byte_state m x.state (asked x.board v)))
 perform m x call.Reset =
     if_room x (accepts m x done_code (event x.board.cycle kind.Reset 0 0 0 0) (reset_board x.board) (m.reset x.state))
 perform m x (call.Run n) = ran_step (run m n x)

@@ -26,9 +26,9 @@ pub enum Call {
 // Why a run ended.
 #[derive(Clone, Copy, PartialEq, Eq, Debug)]
 pub enum Stop {
-    Whole,
-    TraceFull,
-    LastCycle,
+    Whole = 0,
+    TraceFull = 1,
+    LastCycle = 2,
 }
 
 // What an accepted call gives back.
@@ -46,10 +46,6 @@ impl Stop {
     pub fn number(self) -> u8
         ensures { result ≡ stop_number self }
     {
-        match self {
-            Stop::Whole => 0,
-            Stop::TraceFull => 1,
-            Stop::LastCycle => 2,
-        }
+        self as u8
     }
 }

@@ -1,20 +1,30 @@
 -- The lamps of a front panel: a word, one bit for each lamp. Assumes nothing.
-use Rattle.std.specs.Prelude.{ℕ, ◌/◌, ◌%◌, Bool, false, cond, ◌&&◌, List, [], ◌∷◌, IfSome, Some, None, Option, ◌==◌, nat_le, slice_index, refl}
+use Rattle.std.specs.Prelude.{ℕ, ◌/◌, ◌%◌, Bool, false, if◌then◌else◌, ◌&&◌, List, [], ◌∷◌, Some, None, Option, ◌==◌, nat_le, slice_index, refl}
 use Rattle.std.proofs.Common.{lit<}
-use Rattle.std.specs.Option.{option_map}
 use Rattle.registers.specs.Aliases.{alias_at}
 use Rattle.registers.specs.Bits.{lane_bits}
-use Rattle.registers.specs.Writes.{written, shown}
+use Rattle.registers.specs.Writes.{written}
+use Rattle.panel.specs.declared.Register.{Register}
+use Rattle.panel.specs.declared.Register.TheVariants.{Lamps}
 use Rattle.peripheral.specs.Model.{Model, Keeps}
-use Rattle.peripheral.specs.Rules.{Rules, Coded, model_of, keeps_of}
+use Rattle.peripheral.specs.Block.{shown_at, put_at}
+use Rattle.peripheral.specs.Rules.{Rules, Coded, model_of, Any, all_good, keeps_of}
 
 -- the panel claims 0x1B008000 to 0x1B008FFF
 abbrev pub owns : ℕ → Bool
 owns a = nat_le 0x1B008000 a && nat_le a 0x1B008FFF
 
 -- its one register is at offset 0
-abbrev pub register_at : ℕ → Option (Unit {0})
-register_at a = cond (a / 16 % 256 == 0) (Some tt) None
+abbrev pub register_at : ℕ → Option Register
+register_at a = if a / 16 % 256 == 0 then Some Lamps else None
+
+-- what it shows
+abbrev pub word_of : ℕ → Register → ℕ
+word_of w r = w
+
+-- the lamps after a write by an alias, of a value, under a lane mask
+abbrev pub after_write : ℕ → ℕ → ℕ → ℕ → Register → ℕ
+after_write w n v l r = written n w v (lane_bits l)
 
 -- the state is the word
 abbrev pub encode : ℕ → List ℕ
@@ -30,8 +40,8 @@ rules = record {
   encode = encode;
   decode = decode;
   claims = owns;
-  read = λ w a. option_map (λ _. shown (alias_at a) w) (register_at a);
-  write = λ w a v l. option_map (λ _. written (alias_at a) w v (lane_bits l)) (register_at a);
+  read = shown_at register_at word_of;
+  write = put_at register_at after_write;
   input = λ i. false;
   feed = λ w i v. w;
   clock = λ w. w;
@@ -44,20 +54,12 @@ rules = record {
 abbrev pub panel_model : Model
 panel_model = model_of rules
 
--- any word will do
-abbrev Any : ℕ → Type 0
-Any w = Unit {0}
-
-any_written : (n : ℕ) (o : Option (Unit {0})) → IfSome (option_map (λ _. n) o) Any
-any_written n (Some x) = tt
-any_written n None = tt
-
 pub coded : Coded rules Any
 coded = record {
   decoded = λ s h. tt;
   back = λ w _. refl;
   sized = λ w _. refl;
-  write = λ w a v l _. any_written (written (alias_at a) w v (lane_bits l)) (register_at a);
+  write = λ w a v l _. all_good Any (after_write w (alias_at a) v l) (register_at a) (λ _. tt);
   feed = λ w i v _. tt;
   clock = λ w _. tt;
   raised = λ w _. lit< tt;

@@ -3,13 +3,10 @@
 #![tactic(auto)]
 
 ghost use Rattle.std.specs.Prelude.{◌≡◌, [], refl};
-ghost use Rattle.registers.specs.Address.{word_address};
-ghost use Rattle.peripheral.specs.Bus as bus;
-ghost use Rattle.peripheral.specs.Bus.{told};
-ghost use Rattle.panel.specs.Lamps.{owns, register_at, encode, panel_model, panel_keeps};
+ghost use Rattle.panel.specs.Lamps.{owns, register_at, word_of, after_write, encode, panel_model, panel_keeps};
 
-use peripheral::{Fault, Peripheral, fill, located};
-use registers::{Alias, Lanes, word_address};
+use peripheral::{Fault, Peripheral, RegisterBlock, RegisterMap, fill};
+use registers::{Lanes, Write};
 
 // One bit for each of 32 lamps.
 #[derive(Drop)]
@@ -17,27 +14,52 @@ pub struct Panel<'a> {
     lamps: &'a mut u32,
 }
 
-fn claimed(addr: u32) -> bool
-    ensures { result ≡ owns (word_address addr) }
-{
-    matches!(word_address(addr), 0x1B00_8000..=0x1B00_8FFF)
-}
-
-// The panel has one register, LAMPS, at offset 0.
-fn find(addr: u32) -> Result<(), Fault>
-    ensures { told result ≡ bus.located addr (owns (word_address addr)) (register_at (word_address addr)) }
-{
-    let register = if addr / 16 % 256 == 0 { Some(()) } else { None };
-    located(addr, claimed(addr), register)
+// The panel has one register, at offset 0.
+#[derive(Clone, Copy)]
+pub enum Register {
+    Lamps,
 }
 
 impl<'a> Panel<'a> {
     // A panel that shows what the word holds.
     pub fn new(lamps: &'a mut u32) -> Panel<'a>
-        ensures value { result.lamps.now ≡ lamps.old }
-        ensures lent { result.lamps.ghost_name ≡ lamps.entry.ghost_name }
+        ensures { result.lamps ≡ lamps.entry }
     {
         Panel { lamps }
+    }
+}
+
+impl RegisterMap for Register {
+    ghost owned = { owns };
+
+    ghost found = { register_at };
+
+    fn owns(word: u32) -> bool {
+        matches!(word, 0x1B00_8000..=0x1B00_8FFF)
+    }
+
+    fn at(word: u32) -> Option<Register> {
+        (word / 16 % 256 == 0).then_some(Register::Lamps)
+    }
+}
+
+impl<'a> RegisterBlock for Panel<'a> {
+    type Register = Register;
+
+    type Content = u32;
+
+    ghost content = { λ x. x.lamps.now };
+
+    ghost word_of = { word_of };
+
+    ghost after_write = { after_write };
+
+    fn word(&self, _register: Register) -> u32 {
+        *self.lamps
+    }
+
+    fn put(&mut self, _register: Register, write: Write) {
+        *self.lamps = write.apply(*self.lamps);
     }
 }
 
@@ -55,18 +77,15 @@ impl<'a> Peripheral for Panel<'a> {
     ghost sized = { λ _. refl };
 
     fn claims(&self, addr: u32) -> bool {
-        claimed(addr)
+        Register::claims(addr)
     }
 
     fn read(&self, addr: u32) -> Result<u32, Fault> {
-        find(addr)?;
-        Ok(Alias::at(addr).read(*self.lamps))
+        self.read_at(addr)
     }
 
     fn write(&mut self, addr: u32, value: u32, lanes: Lanes) -> Result<(), Fault> {
-        find(addr)?;
-        *self.lamps = Alias::at(addr).write(*self.lamps, value, lanes.bits());
-        Ok(())
+        self.write_at(addr, value, lanes)
     }
 
     fn has_input(&self, _input: u32) -> bool {
@@ -75,10 +94,12 @@ impl<'a> Peripheral for Panel<'a> {
 
     fn feed(&mut self, _input: u32, _value: u32) {}
 
+    #[tactic(auto, using(peripheral::proofs::Steps::still_steps, peripheral::proofs::Steps::still_union))]
     fn advance(&mut self, _n: u32) -> u16 {
         0
     }
 
+    #[tactic(auto, using(peripheral::proofs::Steps::still_steps))]
     fn quiet(&self) -> u32 {
         u32::MAX
     }

@@ -2,6 +2,6 @@ pub mod Or
 pub mod Steps
 pub mod Sides
 pub mod Stored
-pub mod Found
+pub mod Reached
 mod Fills
 mod Nesting

@@ -1,6 +1,6 @@
 -- How three peripherals are nested in pairs makes no difference. Assumes nothing.
-use Rattle.std.proofs.Common.{◌≡◌, ℕ, ◌+◌, Bool, true, false, cond, ◌||◌, List, ◌++◌, Some, None, Option, sym, refl, ap, ◌∙◌, append_assoc, add_assoc, arith, take-append-drop, take-take, drop-drop, take-add}
-use lib.Bits.{bit_or}
+use Rattle.std.proofs.Common.{◌≡◌, ℕ, ◌+◌, Bool, if◌then◌else◌, ◌||◌, List, ◌++◌, Option, sym, ◌∙◌, append_assoc, add_assoc, arith, take-append-drop, take-take, drop-drop, take-add, bit_or}
+use Rattle.std.proofs.Math.Bool.{or_assoc as either_assoc}
 use Rattle.std.specs.Option.{option_map}
 use Rattle.std.proofs.lemmas.List.{drop-take}
 use Rattle.registers.specs.Address.{word_address}
@@ -9,28 +9,14 @@ use Rattle.peripheral.specs.Pair.{pair, first_part, second_part}
 use Rattle.peripheral.proofs.Or.{or_assoc}
 
 -- the first of three that claims an address, asked in either order
-either_assoc : (x y z : Bool) → ((x || y) || z) ≡ (x || (y || z))
-either_assoc true y z = refl
-either_assoc false y z = refl
-
-cond_assoc : {X : Type 0} (x y : Bool) (p q r : X) → cond (x || y) (cond x p q) r ≡ cond x p (cond y q r)
-cond_assoc true y p q r = refl
-cond_assoc false y p q r = refl
-
--- two maps, one after the other, are a third that agrees with them
-mapped_twice : {X Y Z : Type 0} (f : Y → Z) (g : X → Y) (h : X → Z) → ((x : X) → f (g x) ≡ h x) → (o : Option X) → option_map f (option_map g o) ≡ option_map h o
-mapped_twice f g h e (Some x) = ap Some (e x)
-mapped_twice f g h e None = refl
+first_of : {X : Type 0} (x y : Bool) (p q r : X) → (if x || y then if x then p else q else r) ≡ (if x then p else if y then q else r)
+first_of x y p q r = grind arith
 
 -- a write to one of three parts x, y and z
 write_parts : (x y z : List ℕ) (o p q : Option (List ℕ)) (b c : Bool)
-    → cond (b || c) (option_map (λ t. t ++ z) (cond b (option_map (λ t. t ++ y) o) (option_map (λ t. x ++ t) p))) (option_map (λ t. (x ++ y) ++ t) q)
-    ≡ cond b (option_map (λ t. t ++ (y ++ z)) o) (option_map (λ t. x ++ t) (cond c (option_map (λ t. t ++ z) p) (option_map (λ t. y ++ t) q)))
-write_parts x y z o p q true c = mapped_twice (λ t. t ++ z) (λ t. t ++ y) (λ t. t ++ (y ++ z)) (λ t. append_assoc t y z) o
-write_parts x y z o p q false true =
-    mapped_twice (λ t. t ++ z) (λ t. x ++ t) (λ t. x ++ (t ++ z)) (λ t. append_assoc x t z) p
-    ∙ sym (mapped_twice (λ t. x ++ t) (λ t. t ++ z) (λ t. x ++ (t ++ z)) (λ t. refl) p)
-write_parts x y z o p q false false = sym (mapped_twice (λ t. x ++ t) (λ t. y ++ t) (λ t. (x ++ y) ++ t) (λ t. sym (append_assoc x y t)) q)
+    → (if b || c then option_map (λ t. t ++ z) (if b then option_map (λ t. t ++ y) o else option_map (λ t. x ++ t) p) else option_map (λ t. (x ++ y) ++ t) q)
+    ≡ (if b then option_map (λ t. t ++ (y ++ z)) o else option_map (λ t. x ++ t) (if c then option_map (λ t. t ++ z) p else option_map (λ t. y ++ t) q))
+write_parts x y z o p q b c = grind (arith, append_assoc)
 
 module _ (l m n : Model) (s : List ℕ) where
   -- the three parts of a state, and two of them together
@@ -64,20 +50,20 @@ module _ (l m n : Model) (s : List ℕ) where
 
   read_three : (a : ℕ) → (pair (pair l m) n).read s a ≡ (pair l (pair m n)).read s a
   read_three a =
-      (λ i. cond (l.claims a || m.claims a) (cond (l.claims a) (l.read (one i) a) (m.read (two i) a)) (n.read (three i) a))
-      ∙ cond_assoc (l.claims a) (m.claims a) (l.read (first_part l s) a) (m.read (first_part m (second_part l s)) a) (n.read (second_part m (second_part l s)) a)
+      (λ i. if l.claims a || m.claims a then if l.claims a then l.read (one i) a else m.read (two i) a else n.read (three i) a)
+      ∙ first_of (l.claims a) (m.claims a) (l.read (first_part l s) a) (m.read (first_part m (second_part l s)) a) (n.read (second_part m (second_part l s)) a)
 
   write_three : (a v k : ℕ) → (pair (pair l m) n).write s a v k ≡ (pair l (pair m n)).write s a v k
   write_three a v k =
       let x = first_part l s in
       let y = first_part m (second_part l s) in
       let z = second_part m (second_part l s) in
-      (λ i. cond (l.claims a || m.claims a)
-      (option_map (λ t. t ++ three i) (cond (l.claims a) (option_map (λ t. t ++ two i) (l.write (one i) a v k)) (option_map (λ t. one i ++ t) (m.write (two i) a v k))))
-      (option_map (λ t. first_two i ++ t) (n.write (three i) a v k)))
+      (λ i. if l.claims a || m.claims a
+      then option_map (λ t. t ++ three i) (if l.claims a then option_map (λ t. t ++ two i) (l.write (one i) a v k) else option_map (λ t. one i ++ t) (m.write (two i) a v k))
+      else option_map (λ t. first_two i ++ t) (n.write (three i) a v k))
       ∙ write_parts x y z (l.write x a v k) (m.write y a v k) (n.write z a v k) (l.claims a) (m.claims a)
-      ∙ (λ i. cond (l.claims a) (option_map (λ t. t ++ last_two i) (l.write x a v k))
-      (option_map (λ t. x ++ t) (cond (m.claims a) (option_map (λ t. t ++ z) (m.write y a v k)) (option_map (λ t. y ++ t) (n.write z a v k)))))
+      ∙ (λ i. if l.claims a then option_map (λ t. t ++ last_two i) (l.write x a v k)
+      else option_map (λ t. x ++ t) (if m.claims a then option_map (λ t. t ++ z) (m.write y a v k) else option_map (λ t. y ++ t) (n.write z a v k)))
 
 pub regrouped : (l m n : Model) → Same (pair (pair l m) n) (pair l (pair m n))
 regrouped l m n = record {

@@ -1,6 +1,6 @@
 -- Many steps: the last of them, and what settles at the first. Assumes nothing.
-use Rattle.std.proofs.Common.{◌≡◌, ℕ, zero, suc, ◌<◌, List, length, refl, ap, ◌∙◌, arith}
-use lib.Bits.{bit_or, or_zero_r}
+use Rattle.std.proofs.Common.{◌≡◌, ℕ, zero, suc, ◌<◌, List, length, refl, ap, ◌∙◌, arith, bit_or}
+use Rattle.std.specs.Int.Bits.{or_zero_r}
 use Rattle.peripheral.specs.Model.{Model, Keeps, Idle, steps, union, clocks}
 
 module _ {S : Type 0} (f : S → S) where
@@ -20,22 +20,22 @@ module _ {S : Type 0} (f : S → S) where
   pub still_steps : (s : S) → f s ≡ s → (n : ℕ) → steps f n s ≡ s
   unfolding steps
   still_steps s e zero = refl
-  still_steps s e (suc n) = ap (steps f n) e ∙ still_steps s e n
+  still_steps s e (suc n) = grind (arith, still_steps s e n)
 
   pub still_union : (g : S → ℕ) (s : S) → f s ≡ s → g s ≡ 0 → (n : ℕ) → union f g n s ≡ 0
   unfolding union
   still_union g s e z zero = refl
-  still_union g s e z (suc n) = ap (λ x. bit_or x (union f g n (f s))) z ∙ ap (union f g n) e ∙ still_union g s e z n
+  still_union g s e z (suc n) = grind (arith, still_union g s e z n)
 
   -- where the first step settles all: more steps change and give nothing more
   pub settled_steps : (s : S) → f (f s) ≡ f s → (n : ℕ) → 0 < n → steps f n s ≡ f s
   unfolding steps
-  settled_steps s e zero h = let w : ⊥ = omega arith in absurd w
+  settled_steps s e zero h = absurd (omega arith)
   settled_steps s e (suc n) h = still_steps (f s) e n
 
   pub settled_union : (g : S → ℕ) (s : S) → f (f s) ≡ f s → g (f s) ≡ 0 → (n : ℕ) → 0 < n → union f g n s ≡ g s
   unfolding union
-  settled_union g s e z zero h = let w : ⊥ = omega arith in absurd w
+  settled_union g s e z zero h = absurd (omega arith)
   settled_union g s e z (suc n) h = ap (bit_or (g s)) (still_union g (f s) e z n) ∙ or_zero_r (g s)
 
   -- and nothing ever happens, if the first step gives nothing and changes no output

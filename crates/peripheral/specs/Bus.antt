@@ -34,7 +34,11 @@ abbrev pub done : {A : Type 0} → Result A Code → Result (Unit {0}) Code
 done (Ok x) = Ok tt
 done (Err c) = Err c
 
--- a refused write leaves the state
+-- a refused write leaves what was there
+abbrev pub left : {C : Type 0} → C → Result C Code → C
+left c (Ok d) = d
+left c (Err f) = c
+
+-- what a write leaves of a peripheral's state
 abbrev pub kept : List ℕ → Result (List ℕ) Code → List ℕ
-kept s (Ok t) = t
-kept s (Err c) = s
+kept = left

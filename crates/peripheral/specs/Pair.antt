@@ -1,5 +1,5 @@
 -- The model of a pair, worked out from its two sides. Assumes nothing.
-use Rattle.std.specs.Prelude.{ℕ, ◌+◌, cond, ◌||◌, List, ◌++◌, take, drop, bit_or}
+use Rattle.std.specs.Prelude.{ℕ, ◌+◌, if◌then◌else◌, ◌||◌, List, ◌++◌, take, drop, bit_or}
 use Rattle.std.specs.Option.{option_map}
 use Rattle.peripheral.specs.Model.{Model}
 
@@ -15,10 +15,10 @@ abbrev pub pair : Model → Model → Model
 pair m n = record {
   size = m.size + n.size;
   claims = λ a. m.claims a || n.claims a;
-  read = λ s a. cond (m.claims a) (m.read (first_part m s) a) (n.read (second_part m s) a);
-  write = λ s a v l. cond (m.claims a)
-      (option_map (λ t. t ++ second_part m s) (m.write (first_part m s) a v l))
-      (option_map (λ t. first_part m s ++ t) (n.write (second_part m s) a v l));
+  read = λ s a. if m.claims a then m.read (first_part m s) a else n.read (second_part m s) a;
+  write = λ s a v l. if m.claims a
+      then option_map (λ t. t ++ second_part m s) (m.write (first_part m s) a v l)
+      else option_map (λ t. first_part m s ++ t) (n.write (second_part m s) a v l);
   input = λ i. m.input i || n.input i;
   feed = λ s i v. m.feed (first_part m s) i v ++ n.feed (second_part m s) i v;
   clock = λ s. m.clock (first_part m s) ++ n.clock (second_part m s);

@@ -1,6 +1,6 @@
 -- A model from rules over a type of the peripheral's own, whose values are stored as lists of numbers. Assumes nothing.
-use Rattle.std.specs.Prelude.{◌≡◌, ℕ, ◌^◌, ◌<◌, Bool, true, false, cond, List, length, IfSome, Some, None, Option}
-use Rattle.std.proofs.Common.{ap, arith}
+use Rattle.std.specs.Prelude.{◌≡◌, ℕ, ◌^◌, ◌<◌, Bool, true, false, if◌then◌else◌, List, length, IfSome, Some, None, Option}
+use Rattle.std.proofs.Common.{arith, lit<}
 use Rattle.std.specs.Option.{option_map}
 use Rattle.std.proofs.lemmas.Bool.{cond-false}
 use Rattle.peripheral.specs.Model.{Model, Keeps}
@@ -28,7 +28,7 @@ model_of r = record {
   read = λ s a. r.read (r.decode s) a;
   write = λ s a v l. option_map r.encode (r.write (r.decode s) a v l);
   input = r.input;
-  feed = λ s i v. cond (r.input i) (r.encode (r.feed (r.decode s) i v)) s;
+  feed = λ s i v. if r.input i then r.encode (r.feed (r.decode s) i v) else s;
   clock = λ s. r.encode (r.clock (r.decode s));
   raised = λ s. r.raised (r.decode s);
   outputs = λ s. r.outputs (r.decode s);
@@ -48,14 +48,26 @@ pub record Coded {U : Type 0} (r : Rules U) (Good : U → Type 0) : Type 0 where
   pub outputs : (u : U) → Good u → length (r.outputs u) ≡ r.width
   pub reset : (u : U) → Good u → Good (r.reset u)
 
+-- any value will do
+abbrev pub Any : {U : Type 0} → U → Type 0
+Any u = Unit {0}
+
+-- a mask of sixteen bits that is raised or not
+pub mask_fits : (b : Bool) (mask : ℕ) → mask < 2 ^ 16 → (if b then mask else 0) < 2 ^ 16
+mask_fits true mask h = h
+mask_fits false mask h = lit< tt
+
+-- what a write makes is good, if it is for every register
+pub all_good : {X U : Type 0} (Good : U → Type 0) (f : X → U) (o : Option X) → ((x : X) → Good (f x)) → IfSome (option_map f o) Good
+all_good Good f (Some x) h = h x
+all_good Good f None h = tt
+
 module _ {U : Type 0} (r : Rules U) {Good : U → Type 0} (k : Coded r Good) where
   write_sized : (o : Option U) (t : List ℕ) → IfSome o Good → option_map r.encode o ≡ Some t → length t ≡ r.size
-  write_sized (Some u) t g e = let q : r.encode u ≡ t = cc in omega (arith, ap length q, k.sized u g)
-  write_sized None t g e = let z : ◌≡◌ {A = ℕ} 0 1 = cc in omega arith
+  write_sized o t g e = grind (arith, k.sized)
 
-  feed_sized : (b : Bool) (u : U) (s : List ℕ) → Good u → length s ≡ r.size → length (cond b (r.encode u) s) ≡ r.size
-  feed_sized true u s g h = k.sized u g
-  feed_sized false u s g h = h
+  feed_sized : (b : Bool) (u : U) (s : List ℕ) → Good u → length s ≡ r.size → length (if b then r.encode u else s) ≡ r.size
+  feed_sized b u s g h = grind (arith, k.sized)
 
   -- such a model keeps its rules
   pub keeps_of : Keeps (model_of r)

@@ -49,6 +49,7 @@ pub trait Peripheral {
         ensures after { state self.new ≡ (model self.old).feed (state self.old) input value };
 
     // One clock. The answer has bit k where it raises interrupt 8 + k.
+    #[tactic(auto, using(crate::proofs::Steps::steps_one, crate::proofs::Steps::union_one))]
     fn clock(&mut self) -> u16
         ensures same { model self.new ≡ model self.old }
         ensures spare { spare self.new ≡ spare self.old }

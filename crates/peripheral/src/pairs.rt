@@ -62,6 +62,7 @@ impl<P: Peripheral, Q: Peripheral> Peripheral for Pair<P, Q> {
         }
     }
 
+    #[tactic(auto, using(crate::proofs::Sides::done_first, crate::proofs::Sides::kept_first, crate::proofs::Sides::kept_second))]
     fn write(&mut self, addr: u32, value: u32, lanes: Lanes) -> Result<(), Fault> {
         if self.first.claims(addr) {
             self.first.write(addr, value, lanes)

@@ -1,5 +1,5 @@
 -- Lent bytes as memory: words from 0x10000000 on, the lowest byte first. Assumes nothing.
-use Rattle.std.specs.Prelude.{ℕ, zero, suc, ◌+◌, ◌-◌, ◌*◌, ◌/◌, ◌%◌, ◌^◌, min, Bool, cond, ◌&&◌, List, nat_le, nat_lt, slice_index, slice_set}
+use Rattle.std.specs.Prelude.{ℕ, zero, suc, ◌+◌, ◌-◌, ◌*◌, ◌/◌, ◌%◌, ◌^◌, min, Bool, if◌then◌else◌, ◌&&◌, List, nat_le, nat_lt, slice_index, slice_set}
 use Rattle.registers.specs.Bits.{bit}
 
 -- how many of n lent bytes are used: whole words, and at most 65,536 bytes
@@ -25,4 +25,4 @@ byte k v = v / 256 ^ k % 256
 -- the bytes after the first k lanes of a write of v to the word from i on: a lane that is on puts its byte of v
 abbrev pub stored : List ℕ → ℕ → ℕ → ℕ → ℕ → List ℕ
 stored s i v l zero = s
-stored s i v l (suc k) = cond (bit k l) (slice_set (stored s i v l k) (i + k) (byte k v)) (stored s i v l k)
+stored s i v l (suc k) = if bit k l then slice_set (stored s i v l k) (i + k) (byte k v) else stored s i v l k

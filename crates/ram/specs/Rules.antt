@@ -1,5 +1,5 @@
 -- The RAM as a model. Assumes nothing.
-use Rattle.std.specs.Prelude.{◌≡◌, ℕ, zero, suc, ◌+◌, true, false, cond, List, [], length, take, drop, Some, slice_set, refl}
+use Rattle.std.specs.Prelude.{◌≡◌, ℕ, zero, suc, ◌+◌, true, false, if◌then◌else◌, List, [], length, take, drop, Some, slice_set, refl}
 use Rattle.std.proofs.Common.{◌∙◌, arith, lit<, length-set, length-take-le}
 use Rattle.registers.specs.Bits.{bit}
 use Rattle.peripheral.specs.Model.{Model, Keeps}
@@ -40,7 +40,7 @@ spare_over xs = drop (used (length xs)) xs
 pub length-stored : (s : List ℕ) (i v l k : ℕ) → length (stored s i v l k) ≡ length s
 length-stored s i v l zero = refl
 length-stored s i v l (suc k) =
-    elim (bit k l) as (λ b. length (cond b (slice_set (stored s i v l k) (i + k) (byte k v)) (stored s i v l k)) ≡ length s) [
+    elim (bit k l) as (λ b. length (if b then slice_set (stored s i v l k) (i + k) (byte k v) else stored s i v l k) ≡ length s) [
       | true ↦ length-set (stored s i v l k) (i + k) (byte k v) ∙ length-stored s i v l k
       | false ↦ length-stored s i v l k
     ]

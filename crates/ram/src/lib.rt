@@ -25,31 +25,6 @@ pub struct Ram<'a> {
     bytes: &'a mut [u8],
 }
 
-// How many of so many bytes are used.
-fn used(len: usize) -> usize
-    ensures { result ≡ memory.used len }
-{
-    (len - len % 4).min(CAPACITY)
-}
-
-// Whether an address is among those of the used ones of so many bytes.
-fn claimed(addr: u32, len: usize) -> bool
-    ensures { result ≡ owns (memory.used len) (word_address addr) }
-{
-    let word = word_address(addr);
-    let end = BASE + used(len) as u32;
-    word >= BASE && word < end
-}
-
-// Where the word at an address stands among so many bytes. Every claimed address has one; below BASE none is claimed,
-// and the offset is not used.
-fn find(addr: u32, len: usize) -> Result<usize, Fault>
-    ensures { told result ≡ bus.located addr (owns (memory.used len) (word_address addr)) (Some (offset (word_address addr))) }
-{
-    let offset = word_address(addr).saturating_sub(BASE) as usize;
-    located(addr, claimed(addr, len), Some(offset))
-}
-
 // The word from a place on.
 fn load(bytes: &[u8], at: usize) -> u32
     requires { at + 3 < length bytes.now }
@@ -59,15 +34,15 @@ fn load(bytes: &[u8], at: usize) -> u32
 }
 
 // Puts the bytes of a word whose lanes are on.
+#[tactic(auto, using(crate::proofs::Laid::stored_on, crate::proofs::Laid::stored_off, crate::proofs::Laid::byte_is))]
 fn store(bytes: &mut [u8], at: usize, value: u32, lanes: Lanes)
     requires { at + 3 < length bytes.old }
     ensures { bytes.new ≡ stored bytes.old at value lanes.mask 4 }
 {
     let mask = lanes.mask();
-    let word = value.to_le_bytes();
-    for k in 0..4 {
+    for (k, byte) in value.to_le_bytes().iter().enumerate() {
         if (mask >> k) % 2 == 1 {
-            bytes[at + k] = word[k];
+            bytes[at + k] = *byte;
         }
     }
 }
@@ -75,10 +50,35 @@ fn store(bytes: &mut [u8], at: usize, value: u32, lanes: Lanes)
 impl<'a> Ram<'a> {
     // RAM that holds what the bytes hold.
     pub fn new(bytes: &'a mut [u8]) -> Ram<'a>
-        ensures value { result.bytes.now ≡ bytes.old }
-        ensures lent { result.bytes.ghost_name ≡ bytes.entry.ghost_name }
+        ensures { result.bytes ≡ bytes.entry }
     {
         Ram { bytes }
+    }
+
+    // How many of the bytes are used.
+    fn used(&self) -> usize
+        ensures { result ≡ memory.used (length self.now.bytes.now) }
+    {
+        let len = self.bytes.len();
+        (len - len % 4).min(CAPACITY)
+    }
+
+    // Whether the word at an address is among the used bytes.
+    fn owns(&self, word: u32) -> bool
+        ensures { result ≡ owns (memory.used (length self.now.bytes.now)) word }
+    {
+        let end = BASE + self.used() as u32;
+        word >= BASE && word < end
+    }
+
+    // Where the word at an address stands. Every claimed address has one; below BASE none is claimed, and the offset is
+    // not used.
+    fn find(&self, addr: u32) -> Result<usize, Fault>
+        ensures { told result ≡ bus.located addr (owns (memory.used (length self.now.bytes.now)) (word_address addr)) (Some (offset (word_address addr))) }
+    {
+        let word = word_address(addr);
+        let offset = word.saturating_sub(BASE) as usize;
+        located(addr, self.owns(word), Some(offset))
     }
 }
 
@@ -96,14 +96,15 @@ impl<'a> Peripheral for Ram<'a> {
     ghost sized = { λ x. sized_over x.bytes.now };
 
     fn claims(&self, addr: u32) -> bool {
-        claimed(addr, self.bytes.len())
+        self.owns(word_address(addr))
     }
 
     fn read(&self, addr: u32) -> Result<u32, Fault> {
-        let at = find(addr, self.bytes.len())?;
+        let at = self.find(addr)?;
         Ok(load(self.bytes, at))
     }
 
+    #[tactic(auto, using(crate::proofs::Laid::stored_state, crate::proofs::Laid::stores, crate::proofs::Laid::reads_back))]
     fn write(&mut self, addr: u32, value: u32, lanes: Lanes) -> Result<(), Fault>
         ensures same { model_over self.new.bytes.now ≡ model_over self.old.bytes.now }
         ensures spare { spare_over self.new.bytes.now ≡ spare_over self.old.bytes.now }
@@ -112,7 +113,7 @@ impl<'a> Peripheral for Ram<'a> {
         ensures stores { Stores self.old.bytes.now addr value lanes.mask self.new.bytes.now }
         ensures back { ReadsBack (told result) addr value lanes.mask self.new.bytes.now }
     {
-        let at = find(addr, self.bytes.len())?;
+        let at = self.find(addr)?;
         store(self.bytes, at, value, lanes);
         Ok(())
     }
@@ -123,10 +124,12 @@ impl<'a> Peripheral for Ram<'a> {
 
     fn feed(&mut self, _input: u32, _value: u32) {}
 
+    #[tactic(auto, using(peripheral::proofs::Steps::still_steps, peripheral::proofs::Steps::still_union))]
     fn advance(&mut self, _n: u32) -> u16 {
         0
     }
 
+    #[tactic(auto, using(peripheral::proofs::Steps::still_steps))]
     fn quiet(&self) -> u32 {
         u32::MAX
     }

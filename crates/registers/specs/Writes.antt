@@ -1,5 +1,5 @@
 -- What an access does to a register, by the number of its alias: 0 main, 1 SET, 2 CLEAR, 3 INVERT. Assumes nothing.
-use Rattle.std.specs.Prelude.{◌≡◌, ℕ, zero, suc, ◌<◌, Bool, cond, not, ◌&&◌, ◌||◌, bit_and, bit_or, bit_xor}
+use Rattle.std.specs.Prelude.{◌≡◌, ℕ, zero, suc, ◌<◌, Bool, if◌then◌else◌, not, ◌&&◌, ◌||◌, bit_and, bit_or, bit_xor}
 use Rattle.registers.specs.Bits.{bit, without}
 
 -- The word after a write of v that may change the bits `mask`.
@@ -27,7 +27,7 @@ abbrev pub written_bit : ℕ → Bool → Bool → Bool
 written_bit zero old v = v
 written_bit (suc zero) old v = old || v
 written_bit (suc (suc zero)) old v = old && not v
-written_bit (suc (suc (suc n))) old v = cond v (not old) old
+written_bit (suc (suc (suc n))) old v = if v then not old else old
 
 -- A clear-only bit goes to 0 on a main write of 0, a CLEAR of 1 or an INVERT of 1, and never to 1.
 abbrev pub cleared_bit : ℕ → Bool → Bool → Bool
@@ -38,4 +38,4 @@ cleared_bit (suc (suc (suc n))) old v = old && not v
 
 -- Each bit of the mask goes by the rule, and no other bit of the word changes.
 abbrev pub EachBit : (Bool → Bool → Bool) → ℕ → ℕ → ℕ → ℕ → Type 0
-EachBit rule w v mask r = (k : ℕ) → k < 32 → bit k r ≡ cond (bit k mask) (rule (bit k w) (bit k v)) (bit k w)
+EachBit rule w v mask r = (k : ℕ) → k < 32 → bit k r ≡ (if bit k mask then rule (bit k w) (bit k v) else bit k w)

@@ -15,6 +15,7 @@ pub enum Alias {
 }
 
 // The word without some bits.
+#[tactic(auto, using(crate::proofs::Digits::complement))]
 fn without(word: u32, bits: u32) -> u32
     ensures { result ≡ spec.without word bits }
 {
@@ -35,6 +36,7 @@ impl Alias {
     }
 
     // The word of a register after a write of a value, which may change the bits of the mask and no others.
+    #[tactic(auto, using(crate::proofs::Accesses::by_written))]
     pub fn write(self, word: u32, value: u32, mask: u32) -> u32
         ensures value { result ≡ written (alias_number self) word value mask }
         ensures each { EachBit (written_bit (alias_number self)) word value mask result }
@@ -49,6 +51,7 @@ impl Alias {
     }
 
     // The same where software can clear the bits and never set them.
+    #[tactic(auto, using(crate::proofs::Accesses::by_cleared))]
     pub fn clear(self, word: u32, value: u32, mask: u32) -> u32
         ensures value { result ≡ cleared (alias_number self) word value mask }
         ensures each { EachBit (cleared_bit (alias_number self)) word value mask result }

@@ -36,11 +36,12 @@ impl Lanes {
     }
 
     // The bits of a word that lie in the lanes that are on.
+    #[tactic(auto, using(crate::proofs::Accesses::lane_bit))]
     pub fn bits(self) -> u32
         ensures value { result ≡ lane_bits self.mask }
         ensures each { (k : ℕ) → k < 32 → bit k result ≡ bit (k / 8) self.mask }
     {
-        let mask = self.mask as u32;
+        let mask = u32::from(self.mask);
         mask % 2 * 0xFF
             + mask / 2 % 2 * 0xFF00
             + mask / 4 % 2 * 0xFF_0000

@@ -6,9 +6,11 @@ ghost use Rattle.registers.specs.Address.{word_address};
 
 mod aliases;
 mod lanes;
+mod writes;
 
 pub use aliases::Alias;
 pub use lanes::Lanes;
+pub use writes::Write;
 
 // The address of the word that an access reaches: the bus clears the two lowest bits.
 pub fn word_address(addr: u32) -> u32

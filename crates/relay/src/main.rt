@@ -13,7 +13,7 @@ mod job;
 mod report;
 mod rig;
 
-fn run(rt: &HostRuntime) -> io::Result<()> {
+fn main(rt: HostRuntime) -> io::Result<()> {
     let mut lamps = 0;
     let mut rig = Rig::new(Pair {
         first: Gpio::new(),
@@ -30,8 +30,4 @@ fn run(rt: &HostRuntime) -> io::Result<()> {
         println!(rt; "{line}")?;
     }
     println!(rt; "the host's own lamp word: 0x{lamps:08X}")
-}
-
-fn main(rt: HostRuntime) -> io::Result<()> {
-    run(&rt)
 }

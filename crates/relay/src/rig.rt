@@ -14,14 +14,13 @@ pub struct Rig<P> {
     cycle: u64,
 }
 
-// What came of an action.
+// What came of an action that was not refused.
 #[derive(Clone, Copy)]
 pub enum Outcome {
     Done,
     Word(u32),
     // How long the board had said that nothing would happen, and what the clocks raised: bit k for ID 8 + k.
     Raised { quiet: u32, mask: u16 },
-    Refused(Fault),
 }
 
 impl Register {
@@ -68,40 +67,27 @@ impl<P: Peripheral> Rig<P> {
     }
 
     // Makes an action, and says what came of it.
-    pub(crate) fn perform(&mut self, action: Action) -> Outcome
+    pub(crate) fn perform(&mut self, action: Action) -> Result<Outcome, Fault>
         ensures same { P.Peripheral.model self.new.board ≡ P.Peripheral.model self.old.board }
         ensures after { P.Peripheral.state self.new.board ≡ state_after (P.Peripheral.model self.old.board) (P.Peripheral.state self.old.board) action }
     {
         match action {
-            Action::For(_) => Outcome::Done,
-            Action::Write(register, alias, value) => self.write(register.at_alias(alias), value),
-            Action::Read(register) => self.read(register.address()),
+            Action::For(_) => Ok(Outcome::Done),
+            Action::Write(register, alias, value) => {
+                self.board
+                    .write(register.at_alias(alias), value, Lanes::all())?;
+                Ok(Outcome::Done)
+            }
+            Action::Read(register) => self.board.read(register.address()).map(Outcome::Word),
             Action::Feed(input, value) => {
                 self.board.feed(input, value);
-                Outcome::Done
+                Ok(Outcome::Done)
             }
-            Action::Advance(clocks) => self.advance(clocks),
+            Action::Advance(clocks) => Ok(self.advance(clocks)),
             Action::Reset => {
                 self.board.reset();
-                Outcome::Done
+                Ok(Outcome::Done)
             }
-        }
-    }
-
-    fn read(&self, addr: u32) -> Outcome {
-        match self.board.read(addr) {
-            Ok(word) => Outcome::Word(word),
-            Err(fault) => Outcome::Refused(fault),
-        }
-    }
-
-    fn write(&mut self, addr: u32, value: u32) -> Outcome
-        ensures same { P.Peripheral.model self.new.board ≡ P.Peripheral.model self.old.board }
-        ensures after { P.Peripheral.state self.new.board ≡ kept (P.Peripheral.state self.old.board) (write_at (P.Peripheral.model self.old.board) (P.Peripheral.state self.old.board) addr value 15) }
-    {
-        match self.board.write(addr, value, Lanes::all()) {
-            Ok(()) => Outcome::Done,
-            Err(fault) => Outcome::Refused(fault),
         }
     }
 

@@ -1,5 +1,5 @@
 -- A field of four bytes, the lowest first. Assumes nothing.
-use Rattle.std.specs.Prelude.{ℕ, ◌+◌, ◌*◌, ◌/◌, Bool, true, false, cond, Some, None, Option}
+use Rattle.std.specs.Prelude.{ℕ, ◌+◌, ◌*◌, ◌/◌, Bool, true, false, if◌then◌else◌, Some, None, Option}
 use Rattle.serial.specs.declared.field.Place.{Place}
 use Rattle.serial.specs.declared.field.Place.TheVariants.{First, Second, Third, Fourth}
 use Rattle.serial.specs.declared.field.Field.{Field}
@@ -26,4 +26,4 @@ shifted f byte = record { value = f.value / 256 + byte * 0x1000000; next = follo
 
 -- the word, if this byte is the field's last
 abbrev pub whole : Field → ℕ → Option ℕ
-whole f byte = cond (is_last f.next) (Some (shifted f byte).value) None
+whole f byte = if is_last f.next then Some (shifted f byte).value else None

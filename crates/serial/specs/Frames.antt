@@ -1,5 +1,5 @@
 -- A whole upload, and what a bridge makes of it. Assumes nothing.
-use Rattle.std.specs.Prelude.{◌≡◌, ℕ, ◌+◌, ◌*◌, ◌/◌, ◌%◌, ◌^◌, ◌<◌, ◌≤◌, List, [], ◌∷◌, ◌++◌, length, replicate, ◌≢◌}
+use Rattle.std.specs.Prelude.{◌≡◌, ℕ, ◌+◌, ◌*◌, ◌/◌, ◌%◌, ◌^◌, ◌<◌, ◌≤◌, List, [], ◌∷◌, ◌++◌, length, replicate, ◌≢◌, fold}
 use Rattle.serial.specs.declared.bridge.Bridge.{Bridge}
 use Rattle.serial.specs.declared.bridge.Bridge.TheVariants.{Stopped}
 use Rattle.crc.specs.Crc.{crc_of}
@@ -27,8 +27,7 @@ Words (w ∷ ws) = (w < 2 ^ 32) × Words ws
 -- ---- the bytes one after another
 
 abbrev pub after_all : Bridge → List ℕ → Bridge
-after_all s [] = s
-after_all s (byte ∷ bytes) = after_all (after s byte) bytes
+after_all = fold after
 
 abbrev pub answers : Bridge → List ℕ → List Answer
 answers s [] = []

@@ -1,12 +1,12 @@
 -- The upload protocol, byte by byte. Assumes nothing.
-use Rattle.std.specs.Prelude.{ℕ, zero, suc, ◌+◌, ◌-◌, ◌%◌, ◌^◌, Bool, true, false, cond, Some, None, Option, ◌==◌, nat_lt}
+use Rattle.std.specs.Prelude.{ℕ, zero, suc, ◌+◌, ◌-◌, ◌%◌, ◌^◌, Bool, true, false, if◌then◌else◌, Some, None, Option, ◌==◌, nat_lt}
 use Rattle.crc.specs.declared.Crc32c.{Crc32c}
 use Rattle.crc.specs.Crc.{no_bytes, updated, crc_value}
 use Rattle.serial.specs.declared.bridge.Bridge.{Bridge}
 use Rattle.serial.specs.declared.bridge.Bridge.TheVariants.{Address, Count, Word, Check, Stopped}
 use Rattle.serial.specs.declared.bridge.Payload.{Payload}
 use Rattle.serial.specs.declared.bridge.Step.{Step}
-use Rattle.serial.specs.declared.bridge.Step.TheVariants.{Nothing, Write, Reply}
+use Rattle.serial.specs.declared.bridge.Step.TheVariants.{Write, Reply}
 use Rattle.serial.specs.declared.field.Field.{Field}
 use Rattle.serial.specs.Fields.{empty_field, is_last, shifted}
 
@@ -16,7 +16,7 @@ aligned_down a = a - a % 4
 
 -- an address of 32 bits; none past the last
 abbrev pub in_memory : ℕ → Option ℕ
-in_memory a = cond (nat_lt a (2 ^ 32)) (Some a) None
+in_memory a = if nat_lt a (2 ^ 32) then Some a else None
 
 -- ---- the states
 
@@ -63,10 +63,14 @@ abbrev pub reply : ℕ → Answer
 reply byte = record { kind = 2; address = 0; value = byte }
 
 -- each case of a step in numbers
-abbrev pub told : Step → Answer
-told Nothing = nothing
-told (Write a w) = write a w
-told (Reply byte) = reply byte
+abbrev pub told_step : Step → Answer
+told_step (Write a w) = write a w
+told_step (Reply byte) = reply byte
+
+-- what follows from a byte, in numbers: no step is nothing
+abbrev pub told : Option Step → Answer
+told None = nothing
+told (Some step) = told_step step
 
 -- a word is to be written; one that has no address is refused
 abbrev pub asked : Option ℕ → ℕ → Answer
@@ -75,7 +79,7 @@ asked None w = reply 0xE0
 
 -- whether the CRC that was sent is that of the words
 abbrev pub verdict : Crc32c → ℕ → Answer
-verdict c check = reply (cond (check == crc_value c) 0x59 0x23)
+verdict c check = reply (if check == crc_value c then 0x59 else 0x23)
 
 -- ---- a byte: each field goes on to the next at its fourth
 
@@ -88,16 +92,16 @@ abbrev pub checked : Payload → ℕ → Payload
 checked p byte = record { address = p.address; following = p.following; crc = updated p.crc byte }
 
 unfoldable pub after : Bridge → ℕ → Bridge
-after (Address f) byte = cond (is_last f.next) (counting (word f byte)) (Address (shifted f byte))
-after (Count a f) byte = cond (is_last f.next) (expecting (Some a) (word f byte) no_bytes) (Count a (shifted f byte))
+after (Address f) byte = if is_last f.next then counting (word f byte) else Address (shifted f byte)
+after (Count a f) byte = if is_last f.next then expecting (Some a) (word f byte) no_bytes else Count a (shifted f byte)
 after (Word p f) byte =
-    cond (is_last f.next) (written p.address p.following (updated p.crc byte)) (Word (checked p byte) (shifted f byte))
-after (Check c f) byte = cond (is_last f.next) fresh (Check c (shifted f byte))
+    if is_last f.next then written p.address p.following (updated p.crc byte) else Word (checked p byte) (shifted f byte)
+after (Check c f) byte = if is_last f.next then fresh else Check c (shifted f byte)
 after Stopped byte = Stopped
 
 unfoldable pub answer : Bridge → ℕ → Answer
 answer (Address f) byte = nothing
 answer (Count a f) byte = nothing
-answer (Word p f) byte = cond (is_last f.next) (asked p.address (word f byte)) nothing
-answer (Check c f) byte = cond (is_last f.next) (verdict c (word f byte)) nothing
+answer (Word p f) byte = if is_last f.next then asked p.address (word f byte) else nothing
+answer (Check c f) byte = if is_last f.next then verdict c (word f byte) else nothing
 answer Stopped byte = nothing

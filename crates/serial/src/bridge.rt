@@ -15,17 +15,16 @@ const DAMAGED: u8 = 0x23;
 // A word could not be written.
 const REFUSED: u8 = 0xE0;
 
-// What follows from a byte.
-#[derive(Clone, Copy)]
+// What follows from the last byte of a word or of an upload.
+#[derive(Clone, Copy, PartialEq, Eq, Debug)]
 pub enum Step {
-    Nothing,
     Write { address: u32, word: u32 },
     Reply(u8),
 }
 
 // What is known of a word that is arriving: where it goes, how many words follow it, and the CRC up to here. Past the
 // last word of memory there is no address.
-#[derive(Clone, Copy)]
+#[derive(Clone, Copy, PartialEq, Eq, Debug)]
 pub struct Payload {
     address: Option<u32>,
     following: u32,
@@ -33,7 +32,7 @@ pub struct Payload {
 }
 
 // The field that is arriving, with what is known from the fields before it.
-#[derive(Clone, Copy)]
+#[derive(Clone, Copy, PartialEq, Eq, Debug)]
 pub enum Bridge {
     Address(Field),
     Count { address: u32, field: Field },
@@ -45,7 +44,7 @@ pub enum Bridge {
 
 // What the last byte of an upload is answered.
 fn verdict(crc: Crc32c, check: u32) -> Step
-    ensures { upload.told result ≡ upload.verdict crc check }
+    ensures { upload.told_step result ≡ upload.verdict crc check }
 {
     if check == crc.value() {
         Step::Reply(ACCEPTED)
@@ -57,7 +56,7 @@ fn verdict(crc: Crc32c, check: u32) -> Step
 impl Payload {
     // What the last byte of the word is answered.
     fn ask(self, word: u32) -> Step
-        ensures { upload.told result ≡ upload.asked self.address word }
+        ensures { upload.told_step result ≡ upload.asked self.address word }
     {
         match self.address {
             Some(address) => Step::Write { address, word },
@@ -78,6 +77,7 @@ impl Payload {
 
 impl Bridge {
     // A bridge at the start of an upload.
+    #[tactic(auto, using(crate::proofs::Uploads::takes_frames, crate::proofs::Uploads::stops_at_end))]
     pub fn new() -> Bridge
         ensures state { result ≡ upload.fresh }
         ensures frames { TakesFrames result }
@@ -114,44 +114,33 @@ impl Bridge {
         }
     }
 
-    // Takes the next byte, and says what follows from it.
-    pub fn take(&mut self, byte: u8) -> Step
+    // Takes the next byte, and says what follows from it, if anything does.
+    #[tactic(auto, unfolding(crate::specs::Upload::after, crate::specs::Upload::answer))]
+    pub fn take(&mut self, byte: u8) -> Option<Step>
         ensures after { self.new ≡ upload.after self.old byte }
         ensures answer { upload.told result ≡ upload.answer self.old byte }
     {
         match (&mut *self, byte) {
             (Bridge::Address(field), byte) => {
-                if let Some(address) = field.take(byte) {
-                    *self = Bridge::counting(address);
-                }
-                Step::Nothing
+                *self = Bridge::counting(field.take(byte)?);
+                None
             }
             (Bridge::Count { address, field }, byte) => {
-                if let Some(words) = field.take(byte) {
-                    *self = Bridge::expecting(Some(*address), words, Crc32c::new());
-                }
-                Step::Nothing
+                *self = Bridge::expecting(Some(*address), field.take(byte)?, Crc32c::new());
+                None
             }
             (Bridge::Word { payload, field }, byte) => {
                 payload.crc.update(byte);
-                match field.take(byte) {
-                    Some(word) => {
-                        let step = payload.ask(word);
-                        *self = payload.written();
-                        step
-                    }
-                    None => Step::Nothing,
-                }
+                let step = payload.ask(field.take(byte)?);
+                *self = payload.written();
+                Some(step)
             }
-            (Bridge::Check { crc, field }, byte) => match field.take(byte) {
-                Some(check) => {
-                    let step = verdict(*crc, check);
-                    *self = Bridge::new();
-                    step
-                }
-                None => Step::Nothing,
-            },
-            (Bridge::Stopped, _) => Step::Nothing,
+            (Bridge::Check { crc, field }, byte) => {
+                let step = verdict(*crc, field.take(byte)?);
+                *self = Bridge::new();
+                Some(step)
+            }
+            (Bridge::Stopped, _) => None,
         }
     }
 

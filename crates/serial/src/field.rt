@@ -3,7 +3,7 @@ ghost use Rattle.std.specs.Prelude.{◌≡◌};
 ghost use Rattle.serial.specs.Fields as spec;
 
 // Which byte of a field arrives next.
-#[derive(Clone, Copy)]
+#[derive(Clone, Copy, PartialEq, Eq, Debug)]
 pub enum Place {
     First,
     Second,
@@ -12,7 +12,7 @@ pub enum Place {
 }
 
 // The bytes of a field so far, in a shift register: each byte enters at the top, so after four the word is there.
-#[derive(Clone, Copy)]
+#[derive(Clone, Copy, PartialEq, Eq, Debug)]
 pub struct Field {
     value: u32,
     next: Place,
@@ -46,12 +46,9 @@ impl Field {
         ensures after { self.new ≡ spec.shifted self.old byte }
         ensures whole { result ≡ spec.whole self.old byte }
     {
-        let place = self.next;
+        let is_last = self.next == Place::Fourth;
         self.value = self.value / 256 + u32::from(byte) * 0x100_0000;
-        self.next = place.following();
-        match place {
-            Place::Fourth => Some(self.value),
-            Place::First | Place::Second | Place::Third => None,
-        }
+        self.next = self.next.following();
+        is_last.then_some(self.value)
     }
 }

@@ -1,8 +1,11 @@
 mod Counting
 mod Banks
 mod Walks
+mod Mapped
 mod Modules
 mod Quieting
 mod Flagging
 mod Tallies
 mod Waves
+mod Numbers
+mod Units

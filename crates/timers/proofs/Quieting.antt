@@ -1,7 +1,10 @@
 -- How long nothing happens in the whole unit, and no longer. Assumes nothing.
-use Rattle.std.proofs.Common.{◌≡◌, ℕ, zero, suc, ◌+◌, ◌*◌, ◌<◌, ◌≤◌, min, Bool, true, false, cond, ltb, ◌⊎◌, List, [], ◌∷◌, map, length, get_or, sym, refl, ap, ◌∙◌, ap₂, inl, inr, arith}
-use Rattle.std.specs.List.{AllByRecursion as All}
-use Rattle.std.proofs.lemmas.Bool.{lt-ltb, cases_lt, both_ways, cond-true}
+use Rattle.std.proofs.Common.{◌≡◌, ℕ, zero, suc, ◌+◌, ◌*◌, ◌<◌, ◌≤◌, min, Bool, false, if◌then◌else◌, ltb, List, [], ◌∷◌, ◌++◌, map, length, get_or, sym, refl, ap, ◌∙◌, ap₂, inl, inr, arith}
+use Rattle.std.specs.List.{AllByRecursion as All, fold, reduce}
+use Rattle.std.specs.Prelude.{Option, unwrap_or}
+use Rattle.std.proofs.lemmas.List.Sums.{fold-append}
+use Rattle.std.proofs.lemmas.Bool.{cases_lt, both_ways}
+use Rattle.std.proofs.lemmas.Bool.Decides.{nat_tests}
 use Rattle.std.proofs.ByRecursion.{All-get_or, All-from_get_or, All-weaker}
 use Rattle.peripheral.specs.Model.{Quiet, steps}
 use Rattle.peripheral.proofs.Stored.{quiet_of, idle_of}
@@ -11,7 +14,8 @@ use Rattle.timers.specs.Timer as timer
 use Rattle.timers.specs.Timer.{idle, number, ticks, ticks_within}
 use Rattle.timers.specs.Pwm as pwm
 use Rattle.timers.specs.Pwm.{off, timer_of, loaded, high}
-use Rattle.timers.specs.Unit.{Bank, flags, least, passed, clocked, raise, output, calm}
+use Rattle.timers.specs.declared.Bank.{Bank}
+use Rattle.timers.specs.Unit.{flags, least, passed, clocked, raise, output, calm}
 use Rattle.timers.specs.Rules.{Shaped, encode, rules, coded, timers_model}
 use Rattle.timers.proofs.Counting.{calm-tick, calm_end}
 use Rattle.timers.proofs.Banks.{flags-map, flags_none, steps_bank}
@@ -31,31 +35,33 @@ least_from : {A : Type 0} (f : A → ℕ) (q : ℕ) (xs : List A) (n : ℕ) → 
 least_from f q [] n h k = h
 least_from f q (x ∷ xs) n h k = let j = k.0 in least_from f (min q (f x)) xs n (omega arith) k.1
 
+fold-min : (q x : ℕ) (xs : List ℕ) → fold min (min q x) xs ≡ min q (fold min x xs)
+fold-min q x [] = refl
+fold-min q x (y ∷ ys) =
+    let e : min (min q x) y ≡ min q (min x y) = omega arith in
+    ap (λ n. fold min n ys) e ∙ fold-min q (min x y) ys
+
+-- as an iterator's `min` finds it, where q is no less
+fold_from_reduce : (q : ℕ) (all : List ℕ) → unwrap_or (reduce min all) q ≤ q → unwrap_or (reduce min all) q ≡ fold min q all
+fold_from_reduce q [] h = refl
+fold_from_reduce q (x ∷ xs) h = omega (arith, fold-min q x xs)
+
+pub least_both : {A B : Type 0} (f : A → ℕ) (g : B → ℕ) (q : ℕ) (xs : List A) (ys : List B) (o : Option ℕ) → o ≡ reduce min (map f xs ++ map g ys) → unwrap_or o q ≤ q
+    → unwrap_or o q ≡ least g (least f q xs) ys
+least_both f g q xs ys o e h =
+    let all = map f xs ++ map g ys in
+    let k : unwrap_or o q ≡ unwrap_or (reduce min all) q = ap (λ r. unwrap_or r q) e in
+    k ∙ fold_from_reduce q all (omega arith) ∙ fold-append min q (map f xs) (map g ys)
+
 -- ---- a word of flags tells its tests
 
 flags_same : {A : Type 0} (p q : A → Bool) (xs : List A) → All (λ x. p x ≡ q x) xs → flags p xs ≡ flags q xs
 flags_same p q [] h = refl
 flags_same p q (x ∷ xs) h = ap₂ (λ n b. n * 2 + number b) (flags_same p q xs h.1) h.0
 
-number_same : (a b : Bool) → number a ≡ number b → a ≡ b
-number_same true true e = refl
-number_same true false e = let w : ⊥ = omega arith in absurd w
-number_same false true e = let w : ⊥ = omega arith in absurd w
-number_same false false e = refl
-
-number_le : (b : Bool) → number b ≤ 1
-number_le true = omega arith
-number_le false = omega arith
-
 flags_tell : {A : Type 0} (p q : A → Bool) (xs : List A) → flags p xs ≡ flags q xs → All (λ x. p x ≡ q x) xs
 flags_tell p q [] e = tt
-flags_tell p q (x ∷ xs) e =
-    let a = number_le (p x) in
-    let b = number_le (q x) in
-    (number_same (p x) (q x) (omega arith), flags_tell p q xs (omega arith))
-
-raise_tells : (n : ℕ) → ◌≡◌ {A = ℕ} (cond (ltb 0 n) 8 0) 0 → n ≡ 0
-raise_tells n e = elim (cases_lt 0 n) [ inl h ↦ omega (arith, cond-true {A = ℕ} (ltb 0 n) 8 0 (lt-ltb 0 n h)) | inr h ↦ omega arith ]
+flags_tell p q (x ∷ xs) e = (grind arith, flags_tell p q xs (grind arith))
 
 -- ---- the timer of a module is calm if all timers are
 
@@ -71,17 +77,23 @@ calm-timer_of n ts m z h = all-get_or (λ t. n ≤ timer.calm t) idle z ts _ h
 -- ---- the unit: at each clock, by what its timers and modules do
 
 -- what the next clock raises after k, and the output after one more
-raised-after : (k : ℕ) (u : Bank) → raise ticks (steps clocked k u) ≡ cond (ltb 0 (flags (λ t. ticks (steps timer.clocked k t)) u.timers)) 8 0
+raised-after : (k : ℕ) (u : Bank) → raise ticks (steps clocked k u) ≡ (if ltb 0 (flags (λ t. ticks (steps timer.clocked k t)) u.timers) then 8 else 0)
 unfolding raise passed
-raised-after k u =
-    ap (raise ticks) (steps_bank k u) ∙ ap (λ n. cond (ltb 0 n) 8 0) (flags-map ticks (steps timer.clocked k) u.timers)
+raised-after k u = rw (steps_bank k u, flags-map ticks (steps timer.clocked k) u.timers)
 
 pub output-after : (n : ℕ) (u : Bank) → output (steps clocked n u) ≡ flags (λ m. high (map (steps timer.clocked n) u.timers) (loaded (ticks_within n) u.timers m)) u.modules
 unfolding output passed
-output-after n u =
-    ap output (steps_bank n u) ∙ flags-map (high (map (steps timer.clocked n) u.timers)) (loaded (ticks_within n) u.timers) u.modules
+output-after n u = rw (steps_bank n u, flags-map (high (map (steps timer.clocked n) u.timers)) (loaded (ticks_within n) u.timers) u.modules)
+
+-- of each of some, where no one is less
+all_least : {A : Type 0} (f : A → ℕ) (n : ℕ) (xs : List A) (d : A) → ((i : ℕ) → i < length xs → f (get_or xs i d) < n → ⊥) → All (λ x. n ≤ f x) xs
+all_least f n xs d never = All-from_get_or (λ x. n ≤ f x) xs d (λ i b. elim (cases_lt (f (get_or xs i d)) n) [ inl less ↦ absurd (never i b less) | inr more ↦ more ])
 
 module _ (u : Bank) (shaped : Shaped u) where
+  -- the output of a module after n clocks
+  abbrev high_after : ℕ → Pwm → Bool
+  high_after n m = high (map (steps timer.clocked n) u.timers) (loaded (ticks_within n) u.timers m)
+
   -- it is quiet while all are calm
   quiet_at : (k : ℕ) → k < calm u → (raise ticks (steps clocked k u) ≡ 0) × (output (steps clocked (suc k) u) ≡ output u)
   unfolding calm output
@@ -91,15 +103,11 @@ module _ (u : Bank) (shaped : Shaped u) where
       let top = least_start timer.calm 4294967295 ts in
       let some = least_start (pwm.calm ts) (least timer.calm 4294967295 ts) ms in
       let a : All (λ t. suc k ≤ timer.calm t) ts = least_all timer.calm 4294967295 ts (suc k) (omega arith) in
-      let b : All (λ m. suc k ≤ pwm.calm ts m) ms = least_all (pwm.calm ts) (least timer.calm 4294967295 ts) ms (suc k) l in (
-        raised-after k u
-            ∙ ap (λ n. cond (ltb 0 n) 8 0)
-            (flags_same (λ t. ticks (steps timer.clocked k t)) (λ _. false) ts (All-weaker (λ t. suc k ≤ timer.calm t) (λ t. ticks (steps timer.clocked k t) ≡ false) (calm-tick k) ts a)
-            ∙ flags_none ts),
-        output-after (suc k) u
-            ∙ flags_same (λ m. high (map (steps timer.clocked (suc k)) ts) (loaded (ticks_within (suc k)) ts m)) (high ts) ms
-            (All-weaker (λ m. suc k ≤ pwm.calm ts m) (λ m. high (map (steps timer.clocked (suc k)) ts) (loaded (ticks_within (suc k)) ts m) ≡ high ts m)
-            (λ m j. high-calm (suc k) ts m (calm-timer_of (suc k) ts m (omega arith) a) j) ms b),
+      let b : All (λ m. suc k ≤ pwm.calm ts m) ms = least_all (pwm.calm ts) (least timer.calm 4294967295 ts) ms (suc k) l in
+      let still = All-weaker (λ t. suc k ≤ timer.calm t) (λ t. ticks (steps timer.clocked k t) ≡ false) (calm-tick k) ts a in
+      let same = All-weaker (λ m. suc k ≤ pwm.calm ts m) (λ m. high_after (suc k) m ≡ high ts m) (λ m. high-calm (suc k) ts m (calm-timer_of (suc k) ts m (omega arith) a)) ms b in (
+        rw (raised-after k u, flags_same (λ t. ticks (steps timer.clocked k t)) (λ _. false) ts still, flags_none ts),
+        output-after (suc k) u ∙ flags_same (high_after (suc k)) (high ts) ms same,
       )
 
   pub quiet_calm : Quiet timers_model (encode u) (calm u)
@@ -114,38 +122,27 @@ module _ (u : Bank) (shaped : Shaped u) where
 
     no_tick : (k : ℕ) → k < n → All (λ t. ticks (steps timer.clocked k t) ≡ false) u.timers
     no_tick k l =
-        let ts = u.timers in
         let p : Timer → Bool = λ t. ticks (steps timer.clocked k t) in
-        flags_tell p (λ _. false) ts (raise_tells (flags p ts) (sym (raised-after k u) ∙ (idle_at k l).0) ∙ sym (flags_none ts))
+        let none = rw raised-after at (idle_at k l).0 in
+        let e : flags p u.timers ≡ 0 = grind (arith, nat_tests, none) in
+        flags_tell p (λ _. false) u.timers (e ∙ sym (flags_none u.timers))
 
     all_calm : All (λ t. n ≤ timer.calm t) u.timers
-    all_calm = All-from_get_or (λ t. n ≤ timer.calm t) u.timers idle (λ i b. go i b (cases_lt (timer.calm (get_or u.timers i idle)) n))
-      where
-        go : (i : ℕ) → i < length u.timers → (timer.calm (get_or u.timers i idle) < n) ⊎ (n ≤ timer.calm (get_or u.timers i idle)) → n ≤ timer.calm (get_or u.timers i idle)
-        go i b (inr k) = k
-        go i b (inl k) =
-            let t = get_or u.timers i idle in
-            let j = timer.calm t in
-            absurd (both_ways (ticks (steps timer.clocked j t)) (All-get_or (λ x. ticks (steps timer.clocked j x) ≡ false) u.timers i idle b (no_tick j k)) (calm_end t (omega arith)))
+    all_calm = all_least timer.calm n u.timers idle (λ i b less.
+        let t = get_or u.timers i idle in
+        let j = timer.calm t in
+        both_ways (ticks (steps timer.clocked j t)) (All-get_or (λ x. ticks (steps timer.clocked j x) ≡ false) u.timers i idle b (no_tick j less)) (calm_end t (omega arith)))
 
-    no_edge : (k : ℕ) → k < n → All (λ m. high (map (steps timer.clocked (suc k)) u.timers) (loaded (ticks_within (suc k)) u.timers m) ≡ high u.timers m) u.modules
+    no_edge : (k : ℕ) → k < n → All (λ m. high_after (suc k) m ≡ high u.timers m) u.modules
     unfolding output
-    no_edge k l =
-        flags_tell (λ m. high (map (steps timer.clocked (suc k)) u.timers) (loaded (ticks_within (suc k)) u.timers m)) (high u.timers) u.modules
-        (sym (output-after (suc k) u) ∙ (idle_at k l).1)
+    no_edge k l = flags_tell (high_after (suc k)) (high u.timers) u.modules (sym (output-after (suc k) u) ∙ (idle_at k l).1)
 
     all_hold : All (λ m. n ≤ pwm.calm u.timers m) u.modules
-    all_hold = All-from_get_or (λ m. n ≤ pwm.calm u.timers m) u.modules off (λ i b. go i b (cases_lt (pwm.calm u.timers (get_or u.modules i off)) n))
-      where
-        go : (i : ℕ) → i < length u.modules → (pwm.calm u.timers (get_or u.modules i off) < n) ⊎ (n ≤ pwm.calm u.timers (get_or u.modules i off)) → n ≤ pwm.calm u.timers (get_or u.modules i off)
-        go i b (inr k) = k
-        go i b (inl k) =
-            let ts = u.timers in
-            let m = get_or u.modules i off in
-            let j = pwm.calm ts m in
-            let z = calm-timer_of n ts m small all_calm in
-            absurd (calm_ends ts m (omega arith) (omega arith)
-            (All-get_or (λ x. high (map (steps timer.clocked (suc j)) ts) (loaded (ticks_within (suc j)) ts x) ≡ high ts x) u.modules i off b (no_edge j k)))
+    all_hold = all_least (pwm.calm u.timers) n u.modules off (λ i b less.
+        let m = get_or u.modules i off in
+        let j = pwm.calm u.timers m in
+        let z = calm-timer_of n u.timers m small all_calm in
+        calm_ends u.timers m (omega arith) (omega arith) (All-get_or (λ x. high_after (suc j) x ≡ high u.timers x) u.modules i off b (no_edge j less)))
 
     pub quiet_most : n ≤ calm u
     unfolding calm

@@ -1,15 +1,18 @@
 -- How often each timer ticks in n clocks of the unit, and what shows it. Assumes nothing.
-use Rattle.std.proofs.Common.{◌≡◌, ℕ, zero, suc, ◌+◌, ◌<◌, ◌||◌, ltb, ◌⊎◌, sym, refl, ap, ◌∙◌, subst, inl, inr, arith}
-use Rattle.std.proofs.lemmas.Bool.{cases_lt, cond-true, cond-false, lt-ltb, le-ltb, ltb-true}
+use Rattle.std.proofs.Common.{◌≡◌, ℕ, zero, suc, ◌<◌, ◌||◌, ltb, ◌⊎◌, sym, refl, ◌∙◌, inl, inr, arith}
+use Rattle.std.proofs.lemmas.Bool.{cases_lt, lt-ltb, ltb-true}
+use Rattle.std.proofs.lemmas.Bool.Decides.{nat_tests}
 use Rattle.registers.specs.Bits.{bit}
 use Rattle.registers.proofs.Digits.{bit-bit_or}
 use Rattle.peripheral.specs.Model.{steps}
 use Rattle.timers.specs.Timer as timer
 use Rattle.timers.specs.Timer.{idle, number, ticks, ticks_in, ticks_within}
-use Rattle.timers.specs.Unit.{Bank, timer_at, flags, passed, clocked, raise}
-use Rattle.timers.specs.Rules.{Shaped}
+use Rattle.timers.specs.declared.Bank.{Bank}
+use Rattle.timers.specs.declared.Timers.{Timers}
+use Rattle.timers.specs.Unit.{bank_of, timer_at, flags, passed, clocked, raise}
+use Rattle.timers.specs.Rules.{Shaped, shaped_bank}
 use Rattle.timers.specs.Law.{ticks_of, SomeTick, Counts}
-use Rattle.timers.proofs.Counting.{steps_some, steps_stopped, ticks-running, ticks_stopped}
+use Rattle.timers.proofs.Counting.{steps_some, steps_stopped, ticks_running, ticks_stopped}
 use Rattle.timers.proofs.Banks.{get_or-map, clock_idle}
 use Rattle.timers.proofs.Modules.{steps-idle}
 use Rattle.timers.proofs.Flagging.{bit-flags, some_flag, flag_some}
@@ -22,12 +25,11 @@ timer_clocked u i = get_or-map timer.clocked idle clock_idle u.timers i
 ticks_of_timer : (i n : ℕ) (u : Bank) → ticks_of i n u ≡ ticks_in n (timer_at u i)
 unfolding ticks_of ticks_in
 ticks_of_timer i zero u = refl
-ticks_of_timer i (suc n) u =
-    ap (λ k. number (ticks (timer_at u i)) + k) (ticks_of_timer i n (clocked u) ∙ ap (ticks_in n) (timer_clocked u i))
+ticks_of_timer i (suc n) u = rw (ticks_of_timer i n (clocked u), timer_clocked u i)
 
 within_of : (i n : ℕ) (u : Bank) → ticks_within n (timer_at u i) ≡ ltb 0 (ticks_of i n u)
 unfolding ticks_within
-within_of i n u = ap (ltb 0) (sym (ticks_of_timer i n u))
+within_of i n u = rw (ticks_of_timer i n u)
 
 module _ (u : Bank) (shaped : Shaped u) (n : ℕ) where
   after : Bank
@@ -39,9 +41,7 @@ module _ (u : Bank) (shaped : Shaped u) (n : ℕ) where
 
   status_after : (i : ℕ) → i < 16 → bit i after.status ≡ (bit i u.status || ltb 0 (ticks_of i n u))
   unfolding after passed
-  status_after i h =
-      bit-bit_or i u.status (flags (ticks_within n) u.timers)
-      ∙ ap (λ b. bit i u.status || b) (bit-flags (ticks_within n) idle u.timers i (omega (arith, shaped.timers)) ∙ within_of i n u)
+  status_after i h = rw (bit-bit_or, bit-flags (ticks_within n) idle u.timers i (omega (arith, shaped.timers)), within_of i n u)
 
   some_tick : 0 < flags (ticks_within n) u.timers → SomeTick n u
   some_tick h =
@@ -55,21 +55,20 @@ module _ (u : Bank) (shaped : Shaped u) (n : ℕ) where
   raise-after : ((raise (ticks_within n) u ≡ 8) × SomeTick n u) ⊎ ((raise (ticks_within n) u ≡ 0) × (SomeTick n u → ⊥))
   unfolding raise
   raise-after =
-      let w = flags (ticks_within n) u.timers in
-      elim (cases_lt 0 w) [
-        | inl h ↦ inl (cond-true (ltb 0 w) 8 0 (lt-ltb 0 w h), some_tick h)
-        | inr h ↦ inr (cond-false (ltb 0 w) 8 0 (le-ltb 0 w h), λ r. let k = tick_some r in omega arith)
+      elim (cases_lt 0 (flags (ticks_within n) u.timers)) [
+        | inl h ↦ inl (grind (arith, nat_tests), some_tick h)
+        | inr h ↦ inr (grind (arith, nat_tests), λ r. let k = tick_some r in omega arith)
       ]
 
   counts_after : Counts u n after (raise (ticks_within n) u)
   counts_after = record {
-    ticked = λ i h r. ticks_of_timer i n u ∙ ticks-running n (timer_at u i) r;
+    ticked = λ i h r. ticks_of_timer i n u ∙ ticks_running n (timer_at u i) r;
     count = λ i h p r. timer_after i ∙ steps_some n (timer_at u i) r p;
     stopped = λ i h r. (ticks_of_timer i n u ∙ ticks_stopped n (timer_at u i) r, timer_after i ∙ steps_stopped (timer_at u i) r n);
     status = status_after;
     raise = raise-after;
   }
 
-  pub counts : (v : Bank) (mask : ℕ) → v ≡ passed (steps timer.clocked n) (ticks_within n) u → mask ≡ raise (ticks_within n) u → Counts u n v mask
-  unfolding after
-  counts v mask e f = subst (λ w. Counts u n w mask) (sym e) (subst (Counts u n after) (sym f) counts_after)
+pub counts : (x : Timers) (n : ℕ) (new : Bank) (mask : ℕ) → new ≡ passed (steps timer.clocked n) (ticks_within n) (bank_of x) → mask ≡ raise (ticks_within n) (bank_of x) → Counts (bank_of x) n new mask
+unfolding after
+counts x n new mask e f = rw (e, f) (counts_after (bank_of x) (shaped_bank x) n)

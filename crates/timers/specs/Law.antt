@@ -5,7 +5,8 @@ use Rattle.peripheral.specs.Model.{steps}
 use Rattle.timers.specs.declared.timer.Timer.{Timer}
 use Rattle.timers.specs.Timer.{number, running, limit, base, counted, ticks}
 use Rattle.timers.specs.Pwm.{enabled, timer_of}
-use Rattle.timers.specs.Unit.{Bank, timer_at, pwm_at, clocked, output}
+use Rattle.timers.specs.declared.Bank.{Bank}
+use Rattle.timers.specs.Unit.{timer_at, pwm_at, clocked, output}
 
 -- at how many of the next n clocks timer i ticks
 unfoldable pub ticks_of : ℕ → ℕ → Bank → ℕ

@@ -1,5 +1,5 @@
 -- One pulse-width module, which runs on one of the timers. Assumes nothing.
-use Rattle.std.specs.Prelude.{ℕ, ◌-◌, ◌/◌, ◌%◌, Bool, cond, ◌&&◌, List, ◌==◌, bit_and, nat_lt, slice_index_or}
+use Rattle.std.specs.Prelude.{ℕ, ◌-◌, ◌/◌, ◌%◌, Bool, if◌then◌else◌, ◌&&◌, List, ◌==◌, bit_and, nat_lt, slice_index_or}
 use Rattle.registers.specs.Writes as register
 use Rattle.timers.specs.declared.timer.Timer.{Timer}
 use Rattle.timers.specs.declared.pwm.Pwm.{Pwm}
@@ -19,7 +19,7 @@ timer_of ts m = slice_index_or ts (m.control % 16) idle
 
 -- a tick of its timer copies NEXT_VALUE to VALUE, enabled or not; `ticked` tells which timers ticked
 unfoldable pub loaded : (Timer → Bool) → List Timer → Pwm → Pwm
-loaded ticked ts m = record { control = m.control; value = cond (ticked (timer_of ts m)) m.next_value m.value; next_value = m.next_value }
+loaded ticked ts m = record { control = m.control; value = if ticked (timer_of ts m) then m.next_value else m.value; next_value = m.next_value }
 
 -- its output is high while COUNT is below VALUE
 unfoldable pub high : List Timer → Pwm → Bool
@@ -27,7 +27,7 @@ high ts m = enabled m && nat_lt (timer_of ts m).count m.value
 
 -- the clocks for which the output stays, if the timer does not tick in them: a low one can only rise at a tick
 unfoldable pub calm : List Timer → Pwm → ℕ
-calm ts m = cond (high ts m && running (timer_of ts m)) (m.value - (timer_of ts m).count - 1) 4294967295
+calm ts m = if high ts m && running (timer_of ts m) then m.value - (timer_of ts m).count - 1 else 4294967295
 
 -- ---- its registers
 

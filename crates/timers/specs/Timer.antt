@@ -1,5 +1,5 @@
 -- One timer. Assumes nothing.
-use Rattle.std.specs.Prelude.{ℕ, zero, suc, ◌+◌, ◌-◌, ◌%◌, ◌^◌, min, Bool, cond, ◌&&◌, ◌==◌, bit_and, nat_le, nat_lt}
+use Rattle.std.specs.Prelude.{ℕ, zero, suc, ◌+◌, ◌-◌, ◌%◌, ◌^◌, min, Bool, if◌then◌else◌, ◌&&◌, ◌==◌, bit_and, nat_le, nat_lt}
 use Rattle.registers.specs.Bits.{lane_bits}
 use Rattle.registers.specs.Writes as register
 use Rattle.timers.specs.declared.timer.Timer.{Timer}
@@ -15,7 +15,7 @@ running t = t.control % 2 == 1
 
 -- the clocks from one tick to the next: a PERIOD of 0 means 2^32
 unfoldable pub limit : Timer → ℕ
-limit t = cond (t.period == 0) (2 ^ 32) t.period
+limit t = if t.period == 0 then 2 ^ 32 else t.period
 
 -- ---- one clock
 
@@ -24,14 +24,14 @@ unfoldable pub ticks : Timer → Bool
 ticks t = running t && nat_le (limit t) (t.count + 1)
 
 abbrev pub number : Bool → ℕ
-number b = cond b 1 0
+number b = if b then 1 else 0
 
 abbrev pub counted : Timer → ℕ → Timer
 counted t c = record { control = t.control; count = c; period = t.period }
 
 -- a tick sends COUNT to 0, and else a running timer adds 1
 unfoldable pub clocked : Timer → Timer
-clocked t = counted t (cond (ticks t) 0 (t.count + number (running t)))
+clocked t = counted t (if ticks t then 0 else t.count + number (running t))
 
 -- ---- n clocks
 
@@ -49,7 +49,7 @@ base t = min t.count (limit t - 1)
 
 -- the clocks that pass before the one at which it ticks
 unfoldable pub calm : Timer → ℕ
-calm t = cond (running t) (limit t - 1 - base t) 4294967295
+calm t = if running t then limit t - 1 - base t else 4294967295
 
 -- ---- its registers
 
@@ -62,4 +62,4 @@ word t Period = t.period
 abbrev pub written : Timer → TimerRegister → ℕ → ℕ → ℕ → Timer
 written t Control k v l = record { control = register.written k t.control v (bit_and (lane_bits l) 1); count = t.count; period = t.period }
 written t Count k v l = t
-written t Period k v l = record { control = t.control; count = cond (l == 0) t.count 0; period = register.written k t.period v (lane_bits l) }
+written t Period k v l = record { control = t.control; count = if l == 0 then t.count else 0; period = register.written k t.period v (lane_bits l) }

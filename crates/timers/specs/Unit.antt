@@ -1,9 +1,10 @@
 -- The timer unit: all timers and modules. Assumes nothing.
-use Rattle.std.specs.Prelude.{ℕ, ◌+◌, ◌*◌, min, Bool, cond, List, [], ◌∷◌, map, replicate, bit_or, nat_lt, slice_index_or, slice_set}
+use Rattle.std.specs.Prelude.{ℕ, ◌+◌, ◌*◌, min, Bool, if◌then◌else◌, List, [], ◌∷◌, map, replicate, bit_or, nat_lt, slice_index_or, slice_set, fold}
 use Rattle.registers.specs.Bits.{lane_bits}
 use Rattle.registers.specs.Writes.{cleared}
 use Rattle.timers.specs.declared.timer.Timer.{Timer}
 use Rattle.timers.specs.declared.pwm.Pwm.{Pwm}
+use Rattle.timers.specs.declared.Bank.{Bank}
 use Rattle.timers.specs.declared.Timers.{Timers}
 use Rattle.timers.specs.declared.map.Register.{Register}
 use Rattle.timers.specs.declared.map.Register.TheVariants.{OfTimer, OfPwm, IntStatus}
@@ -12,14 +13,8 @@ use Rattle.timers.specs.Timer.{number, idle, ticks}
 use Rattle.timers.specs.Pwm as pwm
 use Rattle.timers.specs.Pwm.{off, loaded, high}
 
--- 16 timers, 6 modules, and INT_STATUS
-pub record Bank : Type 0 where
-  pub timers : List Timer
-  pub modules : List Pwm
-  pub status : ℕ
-
 abbrev pub bank_of : Timers → Bank
-bank_of x = record { timers = x.timers; modules = x.modules; status = x.int_status }
+bank_of x = x.bank
 
 -- the word in which bit i tells whether p holds of the element at i
 abbrev pub flags : {A : Type 0} → (A → Bool) → List A → ℕ
@@ -42,7 +37,7 @@ clocked u = passed timer.clocked ticks u
 
 -- interrupt 11, as bit 11 - 8, where any timer ticks
 unfoldable pub raise : (Timer → Bool) → Bank → ℕ
-raise ticked u = cond (nat_lt 0 (flags ticked u.timers)) 8 0
+raise ticked u = if nat_lt 0 (flags ticked u.timers) then 8 else 0
 
 -- the one output word: bit i for module i
 unfoldable pub output : Bank → ℕ
@@ -50,8 +45,7 @@ output u = flags (high u.timers) u.modules
 
 -- the least of q and f of each element
 abbrev pub least : {A : Type 0} → (A → ℕ) → ℕ → List A → ℕ
-least f q [] = q
-least f q (x ∷ xs) = least f (min q (f x)) xs
+least f q xs = fold min q (map f xs)
 
 -- the clocks for which nothing happens: the next tick and the next edge of an output bound them, and nothing else
 unfoldable pub calm : Bank → ℕ
@@ -66,14 +60,14 @@ abbrev pub pwm_at : Bank → ℕ → Pwm
 pwm_at u i = slice_index_or u.modules i off
 
 unfoldable pub word : Bank → Register → ℕ
-word u (OfTimer i r) = timer.word (timer_at u i) r
-word u (OfPwm i r) = pwm.word (pwm_at u i) r
+word u (OfTimer i r) = timer.word (timer_at u i.index) r
+word u (OfPwm i r) = pwm.word (pwm_at u i.index) r
 word u IntStatus = u.status
 
 -- a write of v under lanes l, by the alias k; INT_STATUS is clear-only
 unfoldable pub written : Bank → Register → ℕ → ℕ → ℕ → Bank
-written u (OfTimer i r) k v l = record { timers = slice_set u.timers i (timer.written (timer_at u i) r k v l); modules = u.modules; status = u.status }
-written u (OfPwm i r) k v l = record { timers = u.timers; modules = slice_set u.modules i (pwm.written (pwm_at u i) r k v (lane_bits l)); status = u.status }
+written u (OfTimer i r) k v l = record { timers = slice_set u.timers i.index (timer.written (timer_at u i.index) r k v l); modules = u.modules; status = u.status }
+written u (OfPwm i r) k v l = record { timers = u.timers; modules = slice_set u.modules i.index (pwm.written (pwm_at u i.index) r k v (lane_bits l)); status = u.status }
 written u IntStatus k v l = record { timers = u.timers; modules = u.modules; status = cleared k u.status v (lane_bits l) }
 
 -- a reset zeroes all

@@ -7,16 +7,24 @@ use pwm::Pwm;
 use timer::Timer;
 
 mod map;
+mod number;
 mod pwm;
 mod timer;
 mod unit;
 
 // The timers, the modules, and INT_STATUS, in which bit i tells that timer i ticked.
-#[derive(Drop)]
-pub struct Timers {
+#[derive(Clone, Copy)]
+pub(crate) struct Bank {
     timers: [Timer; 16],
     modules: [Pwm; 6],
-    int_status: u32,
-    ghost sixteen: { length timers ≡ 16 },
-    ghost six: { length modules ≡ 6 },
+    status: u32,
+}
+
+// The timer unit.
+#[derive(Drop)]
+pub struct Timers {
+    bank: Bank,
+    // The lengths that the types give: a ghost member such as `sized` has them from here alone.
+    ghost sixteen: { length bank.timers ≡ 16 },
+    ghost six: { length bank.modules ≡ 6 },
 }

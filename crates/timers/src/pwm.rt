@@ -1,18 +1,19 @@
 // One pulse-width module.
-ghost use Rattle.std.specs.Prelude.{◌≡◌, length};
+ghost use Rattle.std.specs.Prelude.{◌≡◌};
 ghost use Rattle.registers.specs.Aliases.{alias_number};
+ghost use Rattle.registers.specs.Bits.{lane_bits};
 ghost use Rattle.timers.specs.Pwm as spec;
 ghost use Rattle.timers.specs.Timer.{ticks_within};
 
 use crate::map::PwmRegister;
 use crate::timer::Timer;
-use registers::Alias;
+use registers::Write;
 
 // The named bits of CONTROL: ENABLE, bit 8, and TIMER_ID, bits 3 to 0.
 const CONTROL: u32 = 0x10F;
 
 // The registers of a module.
-#[derive(Clone, Copy)]
+#[derive(Clone, Copy, Default)]
 pub struct Pwm {
     control: u32,
     value: u32,
@@ -20,16 +21,6 @@ pub struct Pwm {
 }
 
 impl Pwm {
-    pub(crate) fn new() -> Pwm
-        ensures { result ≡ spec.off }
-    {
-        Pwm {
-            control: 0,
-            value: 0,
-            next_value: 0,
-        }
-    }
-
     fn is_enabled(self) -> bool
         ensures { result ≡ spec.enabled self }
     {
@@ -37,16 +28,16 @@ impl Pwm {
     }
 
     // The timer that it runs on.
-    fn timer(self, timers: &[Timer]) -> Timer
-        requires { length timers.now ≡ 16 }
+    #[tactic(auto, unfolding(crate::specs::Pwm::timer_of))]
+    fn timer(self, timers: &[Timer; 16]) -> Timer
         ensures { result ≡ spec.timer_of timers.now self }
     {
         timers[(self.control % 16) as usize]
     }
 
     // A tick of its timer copies NEXT_VALUE to VALUE.
-    pub(crate) fn after(self, timers: &[Timer], n: u32) -> Pwm
-        requires { length timers.now ≡ 16 }
+    #[tactic(auto, unfolding(crate::specs::Pwm::loaded))]
+    pub(crate) fn after(self, timers: &[Timer; 16], n: u32) -> Pwm
         ensures { result ≡ spec.loaded (ticks_within n) timers.now self }
     {
         if self.timer(timers).ticks_within(n) {
@@ -59,16 +50,16 @@ impl Pwm {
         }
     }
 
-    pub(crate) fn is_high(self, timers: &[Timer]) -> bool
-        requires { length timers.now ≡ 16 }
+    #[tactic(auto, unfolding(crate::specs::Pwm::high))]
+    pub(crate) fn is_high(self, timers: &[Timer; 16]) -> bool
         ensures { result ≡ spec.high timers.now self }
     {
         self.is_enabled() && self.timer(timers).count() < self.value
     }
 
     // How many clocks its output stays, if its timer does not tick.
-    pub(crate) fn calm(self, timers: &[Timer]) -> u32
-        requires { length timers.now ≡ 16 }
+    #[tactic(auto, unfolding(crate::specs::Pwm::calm, crate::specs::Pwm::high))]
+    pub(crate) fn calm(self, timers: &[Timer; 16]) -> u32
         ensures { result ≡ spec.calm timers.now self }
     {
         let timer = self.timer(timers);
@@ -90,19 +81,13 @@ impl Pwm {
     }
 
     // VALUE is read-only.
-    pub(crate) fn written(self, register: PwmRegister, alias: Alias, value: u32, mask: u32) -> Pwm
-        ensures { result ≡ spec.written self register (alias_number alias) value mask }
+    pub(crate) fn put(&mut self, register: PwmRegister, write: Write)
+        ensures { self.new ≡ spec.written self.old register (alias_number write.alias) write.value (lane_bits write.lanes.mask) }
     {
         match register {
-            PwmRegister::Control => Pwm {
-                control: alias.write(self.control, value, mask & CONTROL),
-                ..self
-            },
-            PwmRegister::Value => self,
-            PwmRegister::NextValue => Pwm {
-                next_value: alias.write(self.next_value, value, mask),
-                ..self
-            },
+            PwmRegister::Control => self.control = write.apply_to(self.control, CONTROL),
+            PwmRegister::Value => {}
+            PwmRegister::NextValue => self.next_value = write.apply(self.next_value),
         }
     }
 }

@@ -5,13 +5,13 @@ ghost use Rattle.peripheral.specs.Model.{steps};
 ghost use Rattle.timers.specs.Timer as spec;
 
 use crate::map::TimerRegister;
-use registers::{Alias, Lanes};
+use registers::Write;
 
 // The one named bit of CONTROL.
 const RUN: u32 = 1;
 
 // The registers of a timer.
-#[derive(Clone, Copy)]
+#[derive(Clone, Copy, Default)]
 pub struct Timer {
     control: u32,
     count: u32,
@@ -19,16 +19,6 @@ pub struct Timer {
 }
 
 impl Timer {
-    pub(crate) fn new() -> Timer
-        ensures { result ≡ spec.idle }
-    {
-        Timer {
-            control: 0,
-            count: 0,
-            period: 0,
-        }
-    }
-
     pub(crate) fn count(self) -> u32
         ensures { result ≡ self.count }
     {
@@ -42,6 +32,7 @@ impl Timer {
     }
 
     // The clocks from one tick to the next. A PERIOD of 0 means 2^32.
+    #[tactic(auto, unfolding(crate::specs::Timer::limit))]
     fn limit(self) -> u64
         ensures value { result ≡ spec.limit self }
         ensures low { 0 < result }
@@ -55,6 +46,7 @@ impl Timer {
     }
 
     // The count that clocks go on from: one at PERIOD or above ticks at the next clock, as the last one below it does.
+    #[tactic(auto, unfolding(crate::specs::Timer::base))]
     fn base(self) -> u64
         ensures value { result ≡ spec.base self }
         ensures below { result < spec.limit self }
@@ -64,6 +56,7 @@ impl Timer {
     }
 
     // How often it ticks in n clocks.
+    #[tactic(auto, using(crate::proofs::Counting::ticks_running, crate::proofs::Counting::ticks_stopped))]
     fn ticks(self, n: u32) -> u64
         ensures { result ≡ spec.ticks_in n self }
     {
@@ -74,12 +67,14 @@ impl Timer {
         }
     }
 
+    #[tactic(auto, unfolding(crate::specs::Timer::ticks_within))]
     pub(crate) fn ticks_within(self, n: u32) -> bool
         ensures { result ≡ spec.ticks_within n self }
     {
         self.ticks(n) > 0
     }
 
+    #[tactic(auto, using(crate::proofs::Counting::steps_stopped, crate::proofs::Counting::steps_some), unfolding(peripheral::specs::Model::steps))]
     pub(crate) fn after(self, n: u32) -> Timer
         ensures { result ≡ steps spec.clocked n self }
     {
@@ -94,6 +89,7 @@ impl Timer {
     }
 
     // How many clocks pass before the one at which it ticks.
+    #[tactic(auto, unfolding(crate::specs::Timer::calm))]
     pub(crate) fn calm(self) -> u32
         ensures { result ≡ spec.calm self }
     {
@@ -115,28 +111,16 @@ impl Timer {
     }
 
     // A write to PERIOD, by any address and any lane, begins a new period. COUNT is read-only.
-    pub(crate) fn written(
-        self,
-        register: TimerRegister,
-        alias: Alias,
-        value: u32,
-        lanes: Lanes,
-    ) -> Timer
-        ensures { result ≡ spec.written self register (alias_number alias) value lanes.mask }
+    pub(crate) fn put(&mut self, register: TimerRegister, write: Write)
+        ensures { self.new ≡ spec.written self.old register (alias_number write.alias) write.value write.lanes.mask }
     {
         match register {
-            TimerRegister::Control => Timer {
-                control: alias.write(self.control, value, lanes.bits() & RUN),
-                ..self
-            },
-            TimerRegister::Count => self,
+            TimerRegister::Control => self.control = write.apply_to(self.control, RUN),
+            TimerRegister::Count => {}
             TimerRegister::Period => {
-                let period = alias.write(self.period, value, lanes.bits());
-                let count = if lanes.mask() == 0 { self.count } else { 0 };
-                Timer {
-                    count,
-                    period,
-                    ..self
+                self.period = write.apply(self.period);
+                if write.lanes.mask() != 0 {
+                    self.count = 0;
                 }
             }
         }

@@ -1,144 +1,121 @@
 // What the timer unit does on clocks, and on the bus.
-ghost use Rattle.std.specs.Prelude.{◌≡◌, map, length, replicate};
-ghost use Rattle.registers.specs.Aliases.{alias_number};
+ghost use Rattle.std.specs.Prelude.{◌≡◌, if◌then◌else◌, ◌≤◌, length, nat_lt, replicate};
 ghost use Rattle.peripheral.specs.Model.{Quiet, Largest, steps, clocks, raises};
 ghost use Rattle.timers.specs.Timer as timer;
 ghost use Rattle.timers.specs.Timer.{ticks_within};
-ghost use Rattle.timers.specs.Pwm as pwm;
 ghost use Rattle.timers.specs.Unit as spec;
-ghost use Rattle.timers.specs.Unit.{bank_of, flags, least, passed, raise};
-ghost use Rattle.timers.specs.Map.{Within};
+ghost use Rattle.timers.specs.Unit.{bank_of, passed, raise};
 ghost use Rattle.timers.specs.Law.{Counts, Duty};
-ghost use Rattle.timers.specs.Rules.{state_of, timers_model, model_in, spare_in, timers_keeps, sized_state};
+ghost use Rattle.timers.specs.Rules.{after_write, state_of, timers_model, model_in, spare_in, timers_keeps, sized_state};
 
-use crate::Timers;
-use crate::map::{Register, claimed, find};
+use crate::map::Register;
 use crate::pwm::Pwm;
 use crate::timer::Timer;
-use peripheral::{Fault, Peripheral, fill};
-use registers::{Alias, Lanes};
+use crate::{Bank, Timers};
+use peripheral::{Fault, Peripheral, RegisterBlock, RegisterMap, fill};
+use registers::{Lanes, Write};
 
 // What a tick raises: interrupt 11, as bit 11 - 8.
 const TICK: u16 = 8;
 
-// Bit i tells whether timer i ticks in n clocks.
-fn ticked(timers: &[Timer], n: u32) -> u32
-    requires { length timers.now ≡ 16 }
-    ensures { result ≡ flags (ticks_within n) timers.now }
+// The word in which bit i is flag i.
+fn word_of(flags: &[bool]) -> u32
+    requires { length flags.now ≤ 32 }
+    ensures { result ≡ spec.flags (λ flag. flag) flags.now }
 {
     let mut word = 0;
-    for i in (0..timers.len()).rev() {
-        word = word * 2 + u32::from(timers[i].ticks_within(n));
+    for &flag in flags.iter().rev() {
+        word = word * 2 + u32::from(flag);
     }
     word
 }
 
-// Bit i tells whether the output of module i is high.
-fn high(modules: &[Pwm], timers: &[Timer]) -> u32
-    requires { (length modules.now ≡ 6) × (length timers.now ≡ 16) }
-    ensures { result ≡ flags (pwm.high timers.now) modules.now }
+// What ticks raise, where bit i tells of timer i.
+fn raised(ticked: u32) -> u16
+    ensures { result ≡ (if nat_lt 0 ticked then 8 else 0) }
 {
-    let mut word = 0;
-    for i in (0..modules.len()).rev() {
-        word = word * 2 + u32::from(modules[i].is_high(timers));
-    }
-    word
+    if ticked > 0 { TICK } else { 0 }
 }
 
-fn load(modules: &mut [Pwm], timers: &[Timer], n: u32)
-    requires { length timers.now ≡ 16 }
-    ensures { modules.new ≡ map (pwm.loaded (ticks_within n) timers.now) modules.old }
-{
-    for module in modules.iter_mut() {
-        *module = module.after(timers, n);
-    }
-}
-
-fn pass(timers: &mut [Timer], n: u32)
-    ensures { timers.new ≡ map (steps timer.clocked n) timers.old }
-{
-    for timer in timers.iter_mut() {
-        *timer = timer.after(n);
-    }
-}
-
-fn calm_timers(timers: &[Timer]) -> u32
-    ensures { result ≡ least timer.calm 4294967295 timers.now }
-{
-    let mut clocks = u32::MAX;
-    for timer in timers {
-        clocks = clocks.min(timer.calm());
-    }
-    clocks
-}
-
-fn calm_modules(modules: &[Pwm], timers: &[Timer], most: u32) -> u32
-    requires { length timers.now ≡ 16 }
-    ensures { result ≡ least (pwm.calm timers.now) most modules.now }
-{
-    let mut clocks = most;
-    for module in modules {
-        clocks = clocks.min(module.calm(timers));
-    }
-    clocks
-}
-
-impl Timers {
-    // The unit as a reset leaves it.
-    pub fn new() -> Timers
-        ensures { state_of result ≡ replicate 67 0 }
+impl Bank {
+    // The bank as a reset leaves it.
+    #[tactic(auto, unfolding(crate::specs::Unit::zeroed))]
+    fn new() -> Bank
+        ensures { result ≡ spec.zeroed }
     {
-        Timers {
-            timers: [Timer::new(); 16],
-            modules: [Pwm::new(); 6],
-            int_status: 0,
-        }
-    }
-
-    fn word(&self, register: Register) -> u32
-        requires { Within register }
-        ensures { result ≡ spec.word (bank_of self.now) register }
-    {
-        match register {
-            Register::OfTimer(number, register) => self.timers[number].word(register),
-            Register::OfPwm(number, register) => self.modules[number].word(register),
-            Register::IntStatus => self.int_status,
-        }
-    }
-
-    fn put(&mut self, register: Register, alias: Alias, value: u32, lanes: Lanes)
-        requires { Within register }
-        ensures { bank_of self.new ≡ spec.written (bank_of self.old) register (alias_number alias) value lanes.mask }
-    {
-        match register {
-            Register::OfTimer(number, register) => {
-                self.timers[number] = self.timers[number].written(register, alias, value, lanes);
-            }
-            Register::OfPwm(number, register) => {
-                self.modules[number] = self.modules[number].written(
-                    register,
-                    alias,
-                    value,
-                    lanes.bits(),
-                );
-            }
-            Register::IntStatus => self.int_status = alias.clear(
-                self.int_status,
-                value,
-                lanes.bits(),
-            ),
+        Bank {
+            timers: [Timer::default(); 16],
+            modules: [Pwm::default(); 6],
+            status: 0,
         }
     }
 
     fn pass(&mut self, n: u32) -> u16
-        ensures after { bank_of self.new ≡ passed (steps timer.clocked n) (ticks_within n) (bank_of self.old) }
-        ensures value { result ≡ raise (ticks_within n) (bank_of self.old) }
+        ensures after { self.new ≡ passed (steps timer.clocked n) (ticks_within n) self.old }
+        ensures value { result ≡ raise (ticks_within n) self.old }
     {
-        let ticked = ticked(&self.timers, n);
-        load(&mut self.modules, &self.timers, n);
-        pass(&mut self.timers, n);
-        self.int_status |= ticked;
-        if ticked > 0 { TICK } else { 0 }
+        let ticked = word_of(&self.timers.map(|timer| timer.ticks_within(n)));
+        self.modules = self.modules.map(|module| module.after(&self.timers, n));
+        self.timers = self.timers.map(|timer| timer.after(n));
+        self.status |= ticked;
+        raised(ticked)
+    }
+
+    // For how many clocks nothing happens: up to the next tick or edge of an output.
+    fn calm(&self) -> u32
+        ensures { result ≡ spec.calm self.now }
+    {
+        let ticks = self.timers.iter().map(|timer| timer.calm());
+        let edges = self.modules.iter().map(|module| module.calm(&self.timers));
+        ticks.chain(edges).min().unwrap_or(u32::MAX)
+    }
+
+    // The output word: bit i is the level of module i.
+    #[tactic(auto, using(crate::proofs::Mapped::word_mapped), unfolding(crate::specs::Unit::output))]
+    fn levels(&self) -> u32
+        ensures { result ≡ spec.output self.now }
+    {
+        word_of(&self.modules.map(|module| module.is_high(&self.timers)))
+    }
+}
+
+impl RegisterBlock for Bank {
+    type Register = Register;
+
+    type Content = Bank;
+
+    ghost content = { λ u. u };
+
+    ghost word_of = { spec.word };
+
+    ghost after_write = { after_write };
+
+    #[tactic(auto, unfolding(crate::specs::Unit::word))]
+    fn word(&self, register: Register) -> u32 {
+        match register {
+            Register::OfTimer(number, register) => self.timers[number.index].word(register),
+            Register::OfPwm(number, register) => self.modules[number.index].word(register),
+            Register::IntStatus => self.status,
+        }
+    }
+
+    #[tactic(auto, unfolding(crate::specs::Unit::written))]
+    fn put(&mut self, register: Register, write: Write) {
+        match register {
+            Register::OfTimer(number, register) => self.timers[number.index].put(register, write),
+            Register::OfPwm(number, register) => self.modules[number.index].put(register, write),
+            Register::IntStatus => self.status = write.clear(self.status),
+        }
+    }
+}
+
+impl Timers {
+    // The unit as a reset leaves it.
+    #[tactic(auto, unfolding(crate::specs::Unit::zeroed, crate::specs::Rules::encode))]
+    pub fn new() -> Timers
+        ensures { state_of result ≡ replicate 67 0 }
+    {
+        Timers { bank: Bank::new() }
     }
 }
 
@@ -155,28 +132,31 @@ impl Peripheral for Timers {
 
     ghost sized = { sized_state };
 
+    #[tactic(auto, unfolding(crate::specs::Rules::rules))]
     fn claims(&self, addr: u32) -> bool {
-        claimed(addr)
+        Register::claims(addr)
     }
 
+    #[tactic(auto, using(crate::proofs::Units::read_unit))]
     fn read(&self, addr: u32) -> Result<u32, Fault> {
-        let register = find(addr)?;
-        Ok(Alias::at(addr).read(self.word(register)))
+        self.bank.read_at(addr)
     }
 
+    #[tactic(auto, using(crate::proofs::Units::written_unit, crate::proofs::Units::written_sixteen, crate::proofs::Units::written_six), unfolding(crate::specs::Rules::rules))]
     fn write(&mut self, addr: u32, value: u32, lanes: Lanes) -> Result<(), Fault> {
-        let register = find(addr)?;
-        self.put(register, Alias::at(addr), value, lanes);
-        Ok(())
+        self.bank.write_at(addr, value, lanes)
     }
 
+    #[tactic(auto, unfolding(crate::specs::Rules::rules))]
     fn has_input(&self, _input: u32) -> bool {
         false
     }
 
+    #[tactic(auto, unfolding(crate::specs::Rules::rules))]
     fn feed(&mut self, _input: u32, _value: u32) {}
 
     // Each timer takes its n clocks at once, by division and remainder.
+    #[tactic(auto, using(crate::proofs::Units::passed_unit, crate::proofs::Units::raised_unit, crate::proofs::Tallies::counts, crate::proofs::Waves::duty), unfolding(crate::specs::Unit::passed))]
     fn advance(&mut self, n: u32) -> u16
         ensures same { model_in self.new ≡ model_in self.old }
         ensures spare { spare_in self.new ≡ spare_in self.old }
@@ -185,24 +165,25 @@ impl Peripheral for Timers {
         ensures counts { Counts (bank_of self.old) n (bank_of self.new) result }
         ensures duty { Duty (bank_of self.old) }
     {
-        self.pass(n)
+        self.bank.pass(n)
     }
 
+    #[tactic(auto, using(crate::proofs::Quieting::quiet_most))]
     fn quiet(&self) -> u32
         ensures holds { Quiet timers_model (state_of self.now) result }
         ensures value { result ≡ spec.calm (bank_of self.now) }
         ensures largest { Largest timers_model (state_of self.now) result }
     {
-        calm_modules(&self.modules, &self.timers, calm_timers(&self.timers))
+        self.bank.calm()
     }
 
+    #[tactic(auto, using(crate::proofs::Units::output_unit), unfolding(crate::specs::Rules::rules))]
     fn outputs(&self, into: &mut [u32]) -> usize {
-        fill(into, &[high(&self.modules, &self.timers)])
+        fill(into, &[self.bank.levels()])
     }
 
+    #[tactic(auto, unfolding(crate::specs::Rules::rules))]
     fn reset(&mut self) {
-        self.timers = [Timer::new(); 16];
-        self.modules = [Pwm::new(); 6];
-        self.int_status = 0;
+        self.bank = Bank::new();
     }
 }

@@ -1,5 +1,5 @@
 -- The events of a trace. Assumes nothing.
-use Rattle.std.specs.Prelude.{cond, List, [], ◌∷◌, ℕ, ◌+◌, ◌==◌}
+use Rattle.std.specs.Prelude.{if◌then◌else◌, List, [], ◌∷◌, ◌++◌, ℕ, ◌+◌, ◌==◌}
 use Rattle.trace.specs.declared.events.Event.{Event}
 use Rattle.trace.specs.declared.events.Kind.{Kind}
 use Rattle.trace.specs.declared.events.Kind.TheVariants as kind
@@ -21,11 +21,10 @@ event t k place value lanes answer = record { cycle = t; kind = k; place = place
 
 -- an event, if a number is not as it was
 abbrev pub if_changed : ℕ → ℕ → Event → List Event
-if_changed x y e = cond (x == y) [] (e ∷ [])
+if_changed x y e = if x == y then [] else e ∷ []
 
 -- an event for each output word that is not as it was, from the number i on
 abbrev pub output_events : ℕ → ℕ → List ℕ → List ℕ → List Event
 output_events t i [] ys = []
 output_events t i (x ∷ xs) [] = []
-output_events t i (x ∷ xs) (y ∷ ys) =
-    cond (x == y) (output_events t (i + 1) xs ys) (event t kind.Output i y 0 0 ∷ output_events t (i + 1) xs ys)
+output_events t i (x ∷ xs) (y ∷ ys) = if_changed x y (event t kind.Output i y 0 0) ++ output_events t (i + 1) xs ys

@@ -5,15 +5,15 @@ ghost use Rattle.trace.specs.Events.{letter_of, event};
 // What an event tells of: a call of the host's, a changed output word, or another interrupt on offer.
 #[derive(Clone, Copy, PartialEq, Eq, Debug)]
 pub enum Kind {
-    Read,
-    Write,
-    Pin,
-    Trigger,
-    Acknowledge,
-    Byte,
-    Reset,
-    Output,
-    Offer,
+    Read = b'R' as isize,
+    Write = b'W' as isize,
+    Pin = b'P' as isize,
+    Trigger = b'T' as isize,
+    Acknowledge = b'A' as isize,
+    Byte = b'U' as isize,
+    Reset = b'Z' as isize,
+    Output = b'O' as isize,
+    Offer = b'Q' as isize,
 }
 
 // One line of a trace. A number that its kind does not use is 0.
@@ -32,17 +32,7 @@ impl Kind {
     pub fn letter(self) -> u8
         ensures { result ≡ letter_of self }
     {
-        match self {
-            Kind::Read => b'R',
-            Kind::Write => b'W',
-            Kind::Pin => b'P',
-            Kind::Trigger => b'T',
-            Kind::Acknowledge => b'A',
-            Kind::Byte => b'U',
-            Kind::Reset => b'Z',
-            Kind::Output => b'O',
-            Kind::Offer => b'Q',
-        }
+        self as u8
     }
 }
 

@@ -1,7 +1,5 @@
 // What a host can see change, and the events of its changes.
-ghost use Rattle.std.specs.Prelude.{◌≡◌};
-ghost use Rattle.host_log.specs.Lent.{held};
-ghost use Rattle.host_log.specs.Records.{appended};
+ghost use Rattle.host_log.specs.Lent.{Appends};
 ghost use Rattle.trace.specs.Events.{if_changed, output_events};
 ghost use Rattle.trace.specs.Views.{between};
 
@@ -18,8 +16,7 @@ pub struct View {
 
 // Writes an event that tells a new value, if it is not the one before.
 fn note(log: &mut Log<'_, Event>, before: u32, event: Event)
-    ensures held { held log.new ≡ appended (held log.old) (if_changed before event.value event) }
-    ensures lent { log.new.slots.ghost_name ≡ log.old.slots.ghost_name }
+    ensures { Appends log.old log.new (if_changed before event.value event) }
 {
     if before != event.value {
         log.push(event);
@@ -27,16 +24,16 @@ fn note(log: &mut Log<'_, Event>, before: u32, event: Event)
 }
 
 impl View {
-    // Writes an event for each thing that differs in `after`: output words, ascending, core word, offer.
+    // Writes an event for each thing that differs in `after`: output words, ascending, core word, offer. The core word
+    // is told as one more output word.
     pub fn record(&self, after: &View, cycle: u64, log: &mut Log<'_, Event>)
-        ensures held { held log.new ≡ appended (held log.old) (between cycle self.now after.now) }
-        ensures lent { log.new.slots.ghost_name ≡ log.old.slots.ghost_name }
+        ensures { Appends log.old log.new (between cycle self.now after.now) }
     {
         self.record_words(after, cycle, log);
         note(
             log,
             self.core,
-            Event::new(cycle, Kind::Output, 32, after.core),
+            Event::new(cycle, Kind::Output, self.words.len() as u32, after.core),
         );
         note(
             log,
@@ -46,14 +43,13 @@ impl View {
     }
 
     fn record_words(&self, after: &View, cycle: u64, log: &mut Log<'_, Event>)
-        ensures held { held log.new ≡ appended (held log.old) (output_events cycle 0 self.now.words after.now.words) }
-        ensures lent { log.new.slots.ghost_name ≡ log.old.slots.ghost_name }
+        ensures { Appends log.old log.new (output_events cycle 0 self.now.words after.now.words) }
     {
-        for i in 0..32 {
+        for (i, (before, after)) in self.words.iter().zip(&after.words).enumerate() {
             note(
                 log,
-                self.words[i],
-                Event::new(cycle, Kind::Output, i as u32, after.words[i]),
+                *before,
+                Event::new(cycle, Kind::Output, i as u32, *after),
             );
         }
     }

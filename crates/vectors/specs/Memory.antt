@@ -1,5 +1,5 @@
 -- A bridge whose words are written where there is memory. Assumes nothing.
-use Rattle.std.specs.Prelude.{ℕ, ◌/◌, Bool, cond, not, ◌&&◌, ◌==◌}
+use Rattle.std.specs.Prelude.{ℕ, ◌/◌, Bool, if◌then◌else◌, not, ◌&&◌, ◌==◌}
 use Rattle.serial.specs.declared.Bridge.{Bridge}
 use Rattle.serial.specs.declared.Bridge.TheVariants.{Stopped}
 use Rattle.serial.specs.Upload.{Answer, reply}
@@ -13,7 +13,7 @@ refuses x = x.kind == 1 && not (has_memory x.address)
 
 -- it is answered 0xE0, and stops the bridge
 abbrev pub served : Answer → Answer
-served x = cond (refuses x) (reply 0xE0) x
+served x = if refuses x then reply 0xE0 else x
 
 abbrev pub left : Answer → Bridge → Bridge
-left x s = cond (refuses x) Stopped s
+left x s = if refuses x then Stopped else s

@@ -20,7 +20,7 @@ fn check_vectors(rt: &HostRuntime) -> io::Result<bool> {
             computed: vector.computed(),
         };
         println!(rt; "{outcome}")?;
-        passed = passed && outcome.passes();
+        passed &= outcome.passes();
     }
     Ok(passed)
 }
@@ -29,14 +29,15 @@ fn check_vectors(rt: &HostRuntime) -> io::Result<bool> {
 fn check_upload(rt: &HostRuntime, upload: Upload) -> io::Result<bool> {
     let mut bridge = Bridge::new();
     let mut reply = None;
-    rt.println(upload.words())?;
-    for (place, byte) in upload.frame().iter().enumerate() {
-        let step = serve(&mut bridge, *byte);
-        if let Step::Reply(byte) = step {
-            reply = Some(byte);
+    rt.println(upload.title)?;
+    for (place, byte) in upload.frame.iter().enumerate() {
+        if let Some(step) = serve(&mut bridge, *byte) {
+            if let Step::Reply(byte) = step {
+                reply = Some(byte);
+            }
+            let line = Line { place, step };
+            println!(rt; "{line}")?;
         }
-        let line = Line { place, step };
-        print!(rt; "{line}")?;
     }
     let ending = Ending {
         upload,
@@ -47,18 +48,14 @@ fn check_upload(rt: &HostRuntime, upload: Upload) -> io::Result<bool> {
     Ok(ending.passes())
 }
 
-fn run(rt: &HostRuntime) -> io::Result<()> {
-    let mut passed = check_vectors(rt)?;
+fn main(rt: HostRuntime) -> io::Result<()> {
+    let mut passed = check_vectors(&rt)?;
     for upload in UPLOADS {
-        passed = check_upload(rt, upload)? && passed;
+        passed &= check_upload(&rt, upload)?;
     }
     if passed {
         Ok(())
     } else {
         Err(io::ErrorKind::InvalidData.into())
     }
-}
-
-fn main(rt: HostRuntime) -> io::Result<()> {
-    run(&rt)
 }

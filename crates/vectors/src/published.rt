@@ -3,6 +3,7 @@ ghost use Rattle.std.specs.Prelude.{◌≡◌};
 ghost use Rattle.vectors.specs.Published as spec;
 
 use crc::crc32c;
+use std::fmt;
 
 #[derive(Clone, Copy)]
 pub enum Vector {
@@ -34,18 +35,20 @@ const READ_COMMAND: [u8; 48] = *b"\x01\xC0\x00\x00\x00\x00\x00\x00\x00\x00\x00\x
     \x14\x00\x00\x00\x00\x00\x04\x00\x00\x00\x00\x14\x00\x00\x00\x18\
     \x28\x00\x00\x00\x00\x00\x00\x00\x02\x00\x00\x00\x00\x00\x00\x00";
 
-impl Vector {
-    pub(crate) fn words(self) -> &'static str {
-        match self {
+impl fmt::Display for Vector {
+    fn fmt<W: fmt::Write>(&self, f: &mut fmt::Formatter<W>) -> fmt::Result {
+        f.write_str(match self {
             Vector::Zeros => "32 bytes 0x00",
             Vector::Ones => "32 bytes 0xFF",
             Vector::Rising => "0 to 31, rising",
             Vector::Falling => "31 to 0, falling",
             Vector::ReadCommand => "an iSCSI read command",
             Vector::Digits => "the digits 1 to 9",
-        }
+        })
     }
+}
 
+impl Vector {
     fn bytes(self) -> &'static [u8]
         ensures { result.now ≡ spec.bytes self }
     {
@@ -73,6 +76,7 @@ impl Vector {
     }
 
     // Proved to be the published value.
+    #[tactic(auto, using(crate::proofs::Values::value))]
     pub(crate) fn computed(self) -> u32
         ensures { result ≡ spec.published self }
     {

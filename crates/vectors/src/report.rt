@@ -28,18 +28,18 @@ impl Outcome {
 
 impl fmt::Display for Outcome {
     fn fmt<W: fmt::Write>(&self, f: &mut fmt::Formatter<W>) -> fmt::Result {
-        let words = self.vector.words();
+        let vector = self.vector;
         let expected = self.vector.expected();
         let computed = self.computed;
         let verdict = verdict(self.passes());
         write!(
             f,
-            "{words}: expected 0x{expected:08X}, computed 0x{computed:08X}: {verdict}"
+            "{vector}: expected 0x{expected:08X}, computed 0x{computed:08X}: {verdict}"
         )
     }
 }
 
-// What followed from a byte of an upload, as a line; no line where nothing followed.
+// What followed from a byte of an upload.
 #[derive(Clone, Copy)]
 pub struct Line {
     pub place: usize,
@@ -50,11 +50,10 @@ impl fmt::Display for Line {
     fn fmt<W: fmt::Write>(&self, f: &mut fmt::Formatter<W>) -> fmt::Result {
         let place = self.place;
         match self.step {
-            Step::Nothing => Ok(()),
             Step::Write { address, word } => {
-                writeln!(f, "  byte {place}: write 0x{word:08X} to 0x{address:08X}")
+                write!(f, "  byte {place}: write 0x{word:08X} to 0x{address:08X}")
             }
-            Step::Reply(reply) => writeln!(f, "  byte {place}: reply 0x{reply:02X}"),
+            Step::Reply(reply) => write!(f, "  byte {place}: reply 0x{reply:02X}"),
         }
     }
 }
@@ -69,13 +68,13 @@ pub struct Ending {
 
 impl Ending {
     pub(crate) fn passes(self) -> bool {
-        self.reply == Some(self.upload.reply())
+        self.reply == Some(self.upload.reply)
     }
 }
 
 impl fmt::Display for Ending {
     fn fmt<W: fmt::Write>(&self, f: &mut fmt::Formatter<W>) -> fmt::Result {
-        let expected = self.upload.reply();
+        let expected = self.upload.reply;
         let state = if self.stopped { "stopped" } else { "ready" };
         let verdict = verdict(self.passes());
         write!(

@@ -5,73 +5,50 @@ ghost use Rattle.vectors.specs.Memory as spec;
 
 use serial::{Bridge, Step};
 
+// An upload, and the reply that it should get.
 #[derive(Clone, Copy)]
-pub enum Upload {
-    Good,
-    Damaged,
-    Empty,
-    PastEnd,
-    NoMemory,
+pub struct Upload {
+    pub title: &'static str,
+    pub frame: &'static [u8],
+    pub reply: u8,
 }
 
 pub const UPLOADS: [Upload; 5] = [
-    Upload::Good,
-    Upload::Damaged,
-    Upload::Empty,
-    Upload::PastEnd,
-    Upload::NoMemory,
+    Upload {
+        title: "three words to 0x10000000, by an address that is not aligned",
+        frame: b"\x02\x00\x00\x10\x03\x00\x00\x00\
+            \xEF\xBE\xAD\xDE\x13\x00\x00\x00\x78\x56\x34\x12\
+            \x52\x98\x9C\x9A",
+        reply: 0x59,
+    },
+    Upload {
+        title: "the same, with a bit of the second word changed on the way",
+        frame: b"\x02\x00\x00\x10\x03\x00\x00\x00\
+            \xEF\xBE\xAD\xDE\x13\x01\x00\x00\x78\x56\x34\x12\
+            \x52\x98\x9C\x9A",
+        reply: 0x23,
+    },
+    Upload {
+        title: "no words",
+        frame: b"\x00\x00\x00\x10\x00\x00\x00\x00\
+            \x00\x00\x00\x00",
+        reply: 0x59,
+    },
+    Upload {
+        title: "three words where memory ends after two",
+        frame: b"\xF8\xFF\xFF\xFF\x03\x00\x00\x00\
+            \x01\x00\x00\x00\x02\x00\x00\x00\x03\x00\x00\x00\
+            \x1A\x12\x4B\xEA",
+        reply: 0xE0,
+    },
+    Upload {
+        title: "two words where there is no memory",
+        frame: b"\x00\x00\x00\x20\x02\x00\x00\x00\
+            \xEF\xBE\xAD\xDE\x13\x00\x00\x00\
+            \x10\xF4\x46\xD4",
+        reply: 0xE0,
+    },
 ];
-
-const GOOD: [u8; 24] = *b"\x02\x00\x00\x10\x03\x00\x00\x00\
-    \xEF\xBE\xAD\xDE\x13\x00\x00\x00\x78\x56\x34\x12\
-    \x52\x98\x9C\x9A";
-
-// The same with one bit of the second word changed.
-const DAMAGED: [u8; 24] = *b"\x02\x00\x00\x10\x03\x00\x00\x00\
-    \xEF\xBE\xAD\xDE\x13\x01\x00\x00\x78\x56\x34\x12\
-    \x52\x98\x9C\x9A";
-
-const EMPTY: [u8; 12] = *b"\x00\x00\x00\x10\x00\x00\x00\x00\
-    \x00\x00\x00\x00";
-
-const PAST_END: [u8; 24] = *b"\xF8\xFF\xFF\xFF\x03\x00\x00\x00\
-    \x01\x00\x00\x00\x02\x00\x00\x00\x03\x00\x00\x00\
-    \x1A\x12\x4B\xEA";
-
-const NO_MEMORY: [u8; 20] = *b"\x00\x00\x00\x20\x02\x00\x00\x00\
-    \xEF\xBE\xAD\xDE\x13\x00\x00\x00\
-    \x10\xF4\x46\xD4";
-
-impl Upload {
-    pub(crate) fn words(self) -> &'static str {
-        match self {
-            Upload::Good => "three words to 0x10000000, by an address that is not aligned",
-            Upload::Damaged => "the same, with a bit of the second word changed on the way",
-            Upload::Empty => "no words",
-            Upload::PastEnd => "three words where memory ends after two",
-            Upload::NoMemory => "two words where there is no memory",
-        }
-    }
-
-    pub(crate) fn frame(self) -> &'static [u8] {
-        match self {
-            Upload::Good => &GOOD,
-            Upload::Damaged => &DAMAGED,
-            Upload::Empty => &EMPTY,
-            Upload::PastEnd => &PAST_END,
-            Upload::NoMemory => &NO_MEMORY,
-        }
-    }
-
-    // The reply that it should get.
-    pub(crate) fn reply(self) -> u8 {
-        match self {
-            Upload::Good | Upload::Empty => 0x59,
-            Upload::Damaged => 0x23,
-            Upload::PastEnd | Upload::NoMemory => 0xE0,
-        }
-    }
-}
 
 // There is memory everywhere but from 0x20000000 to 0x2FFFFFFF.
 fn has_memory(address: u32) -> bool
@@ -81,12 +58,12 @@ fn has_memory(address: u32) -> bool
 }
 
 // Hands a byte to the bridge, and has the word written that it asks for.
-pub(crate) fn serve(bridge: &mut Bridge, byte: u8) -> Step
+pub(crate) fn serve(bridge: &mut Bridge, byte: u8) -> Option<Step>
     ensures after { bridge.new ≡ spec.left (answer bridge.old byte) (after bridge.old byte) }
     ensures answer { told result ≡ spec.served (answer bridge.old byte) }
 {
-    match bridge.take(byte) {
-        Step::Write { address, .. } if !has_memory(address) => Step::Reply(bridge.refused()),
-        step => step,
+    match bridge.take(byte)? {
+        Step::Write { address, .. } if !has_memory(address) => Some(Step::Reply(bridge.refused())),
+        step => Some(step),
     }
 }

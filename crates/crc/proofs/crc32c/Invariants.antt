@@ -1,7 +1,7 @@
-use Rattle.std.proofs.Common.{◌≡◌, drop}
-use Rattle.crc.specs.Crc.{updated_by, crc_of, crc_value}
+use Rattle.std.proofs.Common.{◌≡◌, take}
+use Rattle.crc.specs.Crc.{no_bytes, updated_by}
 use Rattle.crc.proofs.crc32c.Given as goal
 
--- what is left of the bytes makes the check whole
+-- the register after the bytes so far
 abbrev pub invariant-loop-byte : goal.invariant-loop-byte
-invariant-loop-byte l = crc_value (updated_by l.crc (drop l.byte-index l.bytes)) ≡ crc_of l.bytes
+invariant-loop-byte l = l.crc ≡ updated_by no_bytes (take l.byte-index l.bytes)

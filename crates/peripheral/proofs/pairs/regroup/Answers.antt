@@ -1,14 +1,5 @@
-use Rattle.std.proofs.Common.{refl, append_assoc}
 use Rattle.peripheral.proofs.Nesting.{regrouped}
 use Rattle.peripheral.proofs.pairs.regroup.Goals as goal
 
-pub returns : goal.returns
-returns g c =
-    let x = c.args.board.first.first in
-    let y = c.args.board.first.second in
-    let z = c.args.board.second in
-    record {
-      parts = (refl, refl, refl);
-      same = regrouped (g.P.Peripheral.model x) (g.Q.Peripheral.model y) (g.R.Peripheral.model z);
-      state = append_assoc (g.P.Peripheral.state x) (g.Q.Peripheral.state y) (g.R.Peripheral.state z);
-    }
+pub returns-clause-same : goal.returns-clause-same
+returns-clause-same g c = regrouped (g.P.Peripheral.model c.args.board.first.first) (g.Q.Peripheral.model c.args.board.first.second) (g.R.Peripheral.model c.args.board.second)

@@ -1,21 +1,17 @@
-use Rattle.std.proofs.Common.{get_or, ap, ◌∙◌, arith}
-use Rattle.host_log.specs.Lent.{held}
-use Rattle.host_log.specs.Records.{appended}
-use Rattle.trace.specs.declared.events.Event.{Event}
-use Rattle.trace.specs.Events.{if_changed}
-use Rattle.trace.proofs.Notes.{noted}
+use Rattle.std.proofs.Common.{None, refl}
+use Rattle.std.proofs.lemmas.Slice.Zip.{either_empty_from_Zip}
+use Rattle.host_log.proofs.Appending.{appends_none, appends_more}
+use Rattle.trace.proofs.Notes.{noted, spent}
 use Rattle.trace.proofs.view.View.record_words.Goals as goal
 
 pub loop-i-preserved : goal.loop-i-preserved
-loop-i-preserved c =
-    let i = c.loop-i.i in
-    let before = held c.loop-i.log in
-    let first = held c.args.log.now in
-    let xs = c.args.self.now.words in
-    let ys = c.args.after.now.words in
-    record {
-      held = c.note.ensures.held
-          ∙ ap (λ (e : Event). appended before (if_changed (get_or xs i 0) e.value e)) c.new.ensures
-          ∙ noted before first c.args.cycle i xs ys c.loop-i.invariant.held (omega arith) (omega arith);
-      lent = c.note.ensures.lent ∙ c.loop-i.invariant.lent;
-    }
+loop-i-preserved c = λ end rest.
+    let s = c.in-Some.ensures.steps in
+    let first = noted c.in-Some.before.now c.new.ensures c.note.ensures in
+    c.loop-i.invariant end (rw (s.0.0, s.0.1, ← s.1) (appends_more first (rw (s.2, ← s.1) at rest)))
+
+pub returns : goal.returns
+returns c =
+    let rest = c.loop-i.i-iterator in
+    let empty = either_empty_from_Zip rest.iter c.next.new.self.iter None refl c.in-None.ensures.steps.0 in
+    c.loop-i.invariant c.loop-i.log (rw (spent c.args.cycle rest.count _ _ empty) (appends_none c.loop-i.log))
