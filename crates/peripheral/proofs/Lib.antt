@@ -3,5 +3,6 @@ pub mod Steps
 pub mod Sides
 pub mod Stored
 pub mod Reached
+pub mod Found
 mod Fills
 mod Nesting

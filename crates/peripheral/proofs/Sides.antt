@@ -2,7 +2,7 @@
 use Rattle.std.proofs.Common.{◌≡◌, ℕ, zero, suc, min, true, false, List, ◌++◌, length, refl, arith, take_at, drop_at, bit_or}
 use Rattle.registers.specs.Address.{word_address}
 use Rattle.peripheral.specs.Model.{Model, Keeps, Quiet, steps, union, clocks, raises}
-use Rattle.peripheral.specs.Bus.{write_at, done, kept}
+use Rattle.peripheral.specs.Bus.{read_at, write_at, done, kept}
 use Rattle.peripheral.specs.Pair.{pair, first_part, second_part}
 use Rattle.peripheral.proofs.Reached.{done_mapped, left_mapped}
 use Rattle.peripheral.proofs.Or.{or_cross}
@@ -16,6 +16,9 @@ module _ (m n : Model) (s t : List ℕ) (h : length s ≡ m.size) where
   second_part_lem = drop_at s t m.size h
 
   module _ (a : ℕ) (e : m.claims (word_address a) ≡ true) where
+    pub read_first : read_at (pair m n) (s ++ t) a ≡ read_at m s a
+    read_first = rw (e, first_part_lem)
+
     pub done_first : (v l : ℕ) → done (write_at (pair m n) (s ++ t) a v l) ≡ done (write_at m s a v l)
     done_first v l = rw (e, first_part_lem, second_part_lem) (done_mapped (λ u. u ++ t) a true (m.write s (word_address a) v l))
 
@@ -23,11 +26,17 @@ module _ (m n : Model) (s t : List ℕ) (h : length s ≡ m.size) where
     kept_first v l = rw (e, first_part_lem, second_part_lem) (left_mapped (λ u. u ++ t) a s true (m.write s (word_address a) v l))
 
   module _ (a : ℕ) (e : m.claims (word_address a) ≡ false) where
+    pub read_second : read_at (pair m n) (s ++ t) a ≡ read_at n t a
+    read_second = rw (e, second_part_lem)
+
     pub done_second : (v l : ℕ) → done (write_at (pair m n) (s ++ t) a v l) ≡ done (write_at n t a v l)
     done_second v l = rw (e, first_part_lem, second_part_lem) (done_mapped (λ u. s ++ u) a (n.claims (word_address a)) (n.write t (word_address a) v l))
 
     pub kept_second : (v l : ℕ) → kept (s ++ t) (write_at (pair m n) (s ++ t) a v l) ≡ s ++ kept t (write_at n t a v l)
     kept_second v l = rw (e, first_part_lem, second_part_lem) (left_mapped (λ u. s ++ u) a t (n.claims (word_address a)) (n.write t (word_address a) v l))
+
+  pub feed_pair : (i v : ℕ) → (pair m n).feed (s ++ t) i v ≡ m.feed s i v ++ n.feed t i v
+  feed_pair i v = rw (first_part_lem, second_part_lem)
 
   pub clock_pair : (pair m n).clock (s ++ t) ≡ m.clock s ++ n.clock t
   clock_pair = rw (first_part_lem, second_part_lem)
@@ -37,6 +46,9 @@ module _ (m n : Model) (s t : List ℕ) (h : length s ≡ m.size) where
 
   pub outputs_pair : (pair m n).outputs (s ++ t) ≡ m.outputs s ++ n.outputs t
   outputs_pair = rw (first_part_lem, second_part_lem)
+
+  pub reset_pair : (pair m n).reset (s ++ t) ≡ m.reset s ++ n.reset t
+  reset_pair = rw (first_part_lem, second_part_lem)
 
 -- many clocks
 module _ (m n : Model) (p : Keeps m) (q : Keeps n) where

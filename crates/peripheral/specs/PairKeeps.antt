@@ -7,7 +7,13 @@ use Rattle.std.proofs.lemmas.Bool.{or_parts}
 use Rattle.peripheral.specs.Model.{Model, Keeps}
 use Rattle.peripheral.specs.Pair.{pair, first_part, second_part}
 
--- what a write to one of two parts gives has the size, if the part that it changed has its own
+-- what a write gives has the size, if the part that it changed has its own
+mapped_sized : (f : List ℕ → List ℕ) (k n : ℕ) (o : Option (List ℕ)) (t : List ℕ)
+    → ((u : List ℕ) → length u ≡ k → length (f u) ≡ n) → ((u : List ℕ) → o ≡ Some u → length u ≡ k)
+    → option_map f o ≡ Some t → length t ≡ n
+mapped_sized f k n o t g h e = grind (arith, g, h)
+
+-- the same of a write to one of two parts
 written_sized : (x y : List ℕ) (i j : ℕ) (o p : Option (List ℕ)) (b : Bool) (t : List ℕ) → length x ≡ i → length y ≡ j
     → ((u : List ℕ) → o ≡ Some u → length u ≡ i) → ((u : List ℕ) → p ≡ Some u → length u ≡ j)
     → (if b then option_map (λ u. u ++ y) o else option_map (λ u. x ++ u) p) ≡ Some t → length t ≡ i + j

@@ -1,5 +1,5 @@
 // Blocks of registers: where they stand, and what an access to one does.
-ghost use Rattle.std.specs.Prelude.{◌≡◌, ℕ, Bool, Option};
+ghost use Rattle.std.specs.Prelude.{◌≡◌, ℕ, Bool, IfErr, Option};
 ghost use Rattle.faults.specs.Faults.{told};
 ghost use Rattle.registers.specs.Address.{word_address};
 ghost use Rattle.registers.specs.Aliases.{alias_number};
@@ -65,9 +65,10 @@ pub trait RegisterBlock {
         Ok(Alias::at(word_address(addr)).read(self.word(register)))
     }
 
-    // A refused write leaves the registers as they are.
+    // A refused write leaves all as it is.
     fn write_at(&mut self, addr: u32, value: u32, lanes: Lanes) -> Result<(), Fault>
         ensures after { content self.new ≡ left (content self.old) (written_register Self.Register.found Self.Register.owned after_write (content self.old) addr value lanes.mask) }
+        ensures refused { IfErr result (λ _. self.new ≡ self.old) }
         ensures value { told result ≡ done (written_register Self.Register.found Self.Register.owned after_write (content self.old) addr value lanes.mask) }
     {
         let register = Self::Register::find(addr)?;

@@ -1,6 +1,8 @@
--- The words after an access, bit by bit; the bits of the lanes. Assumes nothing.
+-- The words after an access, bit by bit; the bits of the lanes; the alias of an address. Assumes nothing.
 use Rattle.std.proofs.Common.{◌≡◌, ℕ, zero, suc, ◌/◌, ◌<◌, Bool, true, if◌then◌else◌, not, ◌&&◌, refl, ap, ◌∙◌, arith, bit_and}
 use Rattle.std.proofs.lemmas.Bool.Decides.{nat_tests}
+use Rattle.registers.specs.Address.{word_address}
+use Rattle.registers.specs.Aliases.{alias_at}
 use Rattle.registers.specs.Bits.{bit, without, lane_bits}
 use Rattle.registers.specs.Writes.{written, cleared, written_bit, cleared_bit, EachBit}
 use Rattle.registers.proofs.Digits.{bit-bit_and, bit-bit_or, bit-bit_xor, bit-without, every, at_each}
@@ -40,3 +42,7 @@ lane_bit l h k j =
     alike_same (bit k (lane_bits l)) (bit (k / 8) l)
     (at_each (λ i. alike (bit i (lane_bits l)) (bit (i / 8) l)) 32
     (at_each (λ m. every 32 (λ i. alike (bit i (lane_bits m)) (bit (i / 8) m))) 16 refl l h) k j)
+
+-- the two lowest bits of an address do not matter to the alias
+pub alias_word : (a : ℕ) → alias_at (word_address a) ≡ alias_at a
+alias_word a = omega arith

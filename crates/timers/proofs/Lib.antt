@@ -1,7 +1,6 @@
 mod Counting
 mod Banks
 mod Walks
-mod Mapped
 mod Modules
 mod Quieting
 mod Flagging

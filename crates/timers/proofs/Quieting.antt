@@ -1,8 +1,6 @@
 -- How long nothing happens in the whole unit, and no longer. Assumes nothing.
-use Rattle.std.proofs.Common.{◌≡◌, ℕ, zero, suc, ◌+◌, ◌*◌, ◌<◌, ◌≤◌, min, Bool, false, if◌then◌else◌, ltb, List, [], ◌∷◌, ◌++◌, map, length, get_or, sym, refl, ap, ◌∙◌, ap₂, inl, inr, arith}
-use Rattle.std.specs.List.{AllByRecursion as All, fold, reduce}
-use Rattle.std.specs.Prelude.{Option, unwrap_or}
-use Rattle.std.proofs.lemmas.List.Sums.{fold-append}
+use Rattle.std.proofs.Common.{◌≡◌, ℕ, zero, suc, ◌+◌, ◌*◌, ◌<◌, ◌≤◌, min, Bool, false, if◌then◌else◌, ltb, List, [], ◌∷◌, map, length, get_or, sym, refl, ap, ◌∙◌, ap₂, inl, inr, arith}
+use Rattle.std.specs.List.{AllByRecursion as All}
 use Rattle.std.proofs.lemmas.Bool.{cases_lt, both_ways}
 use Rattle.std.proofs.lemmas.Bool.Decides.{nat_tests}
 use Rattle.std.proofs.ByRecursion.{All-get_or, All-from_get_or, All-weaker}
@@ -34,24 +32,6 @@ least_all f q (x ∷ xs) n h = (omega (arith, least_start f (min q (f x)) xs), l
 least_from : {A : Type 0} (f : A → ℕ) (q : ℕ) (xs : List A) (n : ℕ) → n ≤ q → All (λ x. n ≤ f x) xs → n ≤ least f q xs
 least_from f q [] n h k = h
 least_from f q (x ∷ xs) n h k = let j = k.0 in least_from f (min q (f x)) xs n (omega arith) k.1
-
-fold-min : (q x : ℕ) (xs : List ℕ) → fold min (min q x) xs ≡ min q (fold min x xs)
-fold-min q x [] = refl
-fold-min q x (y ∷ ys) =
-    let e : min (min q x) y ≡ min q (min x y) = omega arith in
-    ap (λ n. fold min n ys) e ∙ fold-min q (min x y) ys
-
--- as an iterator's `min` finds it, where q is no less
-fold_from_reduce : (q : ℕ) (all : List ℕ) → unwrap_or (reduce min all) q ≤ q → unwrap_or (reduce min all) q ≡ fold min q all
-fold_from_reduce q [] h = refl
-fold_from_reduce q (x ∷ xs) h = omega (arith, fold-min q x xs)
-
-pub least_both : {A B : Type 0} (f : A → ℕ) (g : B → ℕ) (q : ℕ) (xs : List A) (ys : List B) (o : Option ℕ) → o ≡ reduce min (map f xs ++ map g ys) → unwrap_or o q ≤ q
-    → unwrap_or o q ≡ least g (least f q xs) ys
-least_both f g q xs ys o e h =
-    let all = map f xs ++ map g ys in
-    let k : unwrap_or o q ≡ unwrap_or (reduce min all) q = ap (λ r. unwrap_or r q) e in
-    k ∙ fold_from_reduce q all (omega arith) ∙ fold-append min q (map f xs) (map g ys)
 
 -- ---- a word of flags tells its tests
 

@@ -1,5 +1,5 @@
 // What the timer unit does on clocks, and on the bus.
-ghost use Rattle.std.specs.Prelude.{◌≡◌, if◌then◌else◌, ◌≤◌, length, nat_lt, replicate};
+ghost use Rattle.std.specs.Prelude.{◌≡◌, ◌+◌, ◌*◌, ◌%◌, ◌^◌, if◌then◌else◌, map, nat_lt, replicate};
 ghost use Rattle.peripheral.specs.Model.{Quiet, Largest, steps, clocks, raises};
 ghost use Rattle.timers.specs.Timer as timer;
 ghost use Rattle.timers.specs.Timer.{ticks_within};
@@ -18,16 +18,21 @@ use registers::{Lanes, Write};
 // What a tick raises: interrupt 11, as bit 11 - 8.
 const TICK: u16 = 8;
 
-// The word in which bit i is flag i.
-fn word_of(flags: &[bool]) -> u32
-    requires { length flags.now ≤ 32 }
-    ensures { result ≡ spec.flags (λ flag. flag) flags.now }
+// A word of flags with one more, which becomes bit 0.
+fn with_flag(word: u32, flag: bool) -> u32
+    ensures { result ≡ word * 2 % 2 ^ 32 + timer.number flag }
 {
-    let mut word = 0;
-    for &flag in flags.iter().rev() {
-        word = word * 2 + u32::from(flag);
+    word.wrapping_mul(2) + u32::from(flag)
+}
+
+// Puts what `after` makes of each item in its place.
+fn update<T: Copy, F: Fn(T) -> T>(items: &mut [T], after: F)
+    requires { F.IsAlwaysCallable after }
+    ensures { (h : T → T) → ((x : T) (y : T) → F.post after x y → y ≡ h x) → items.new ≡ map h items.old }
+{
+    for item in items.iter_mut() {
+        *item = after(*item);
     }
-    word
 }
 
 // What ticks raise, where bit i tells of timer i.
@@ -54,9 +59,14 @@ impl Bank {
         ensures after { self.new ≡ passed (steps timer.clocked n) (ticks_within n) self.old }
         ensures value { result ≡ raise (ticks_within n) self.old }
     {
-        let ticked = word_of(&self.timers.map(|timer| timer.ticks_within(n)));
-        self.modules = self.modules.map(|module| module.after(&self.timers, n));
-        self.timers = self.timers.map(|timer| timer.after(n));
+        let ticked = self
+            .timers
+            .iter()
+            .rev()
+            .fold(0, |word, timer| with_flag(word, timer.ticks_within(n)));
+        let timers = &self.timers;
+        update(&mut self.modules, |module| module.after(timers, n));
+        update(&mut self.timers, |timer| timer.after(n));
         self.status |= ticked;
         raised(ticked)
     }
@@ -65,17 +75,24 @@ impl Bank {
     fn calm(&self) -> u32
         ensures { result ≡ spec.calm self.now }
     {
-        let ticks = self.timers.iter().map(|timer| timer.calm());
-        let edges = self.modules.iter().map(|module| module.calm(&self.timers));
-        ticks.chain(edges).min().unwrap_or(u32::MAX)
+        let ticks = self
+            .timers
+            .iter()
+            .fold(u32::MAX, |clocks, timer| clocks.min(timer.calm()));
+        self.modules.iter().fold(
+            ticks,
+            |clocks, module| clocks.min(module.calm(&self.timers)),
+        )
     }
 
     // The output word: bit i is the level of module i.
-    #[tactic(auto, using(crate::proofs::Mapped::word_mapped), unfolding(crate::specs::Unit::output))]
     fn levels(&self) -> u32
         ensures { result ≡ spec.output self.now }
     {
-        word_of(&self.modules.map(|module| module.is_high(&self.timers)))
+        self.modules.iter().rev().fold(
+            0,
+            |word, module| with_flag(word, module.is_high(&self.timers)),
+        )
     }
 }
 
@@ -182,7 +199,7 @@ impl Peripheral for Timers {
         fill(into, &[self.bank.levels()])
     }
 
-    #[tactic(auto, unfolding(crate::specs::Rules::rules))]
+    #[tactic(auto, unfolding(crate::specs::Rules::rules, crate::specs::Unit::zeroed))]
     fn reset(&mut self) {
         self.bank = Bank::new();
     }

@@ -1,23 +1,28 @@
-use Rattle.std.proofs.Common.{rules, ap, ◌∙◌, if◌then◌else◌, nat_lt}
+use Rattle.std.proofs.Common.{rules, ap, ◌∙◌, ◌≡◌, if◌then◌else◌, nat_lt, arith}
 use Rattle.peripheral.specs.Model.{steps}
+use Rattle.std.proofs.lemmas.Iterator.Adapters.{YieldsList-from_rev_slice}
 use Rattle.timers.specs.Timer.{clocked, ticks_within}
 use Rattle.timers.specs.Pwm.{loaded}
-use Rattle.timers.specs.Unit.{passed, raise}
-use Rattle.timers.proofs.Mapped.{mapped, word_mapped}
+use Rattle.timers.specs.Unit.{flags, passed, raise}
+use Rattle.timers.proofs.Walks.{flags_of_fold}
 use Rattle.timers.proofs.Bank.pass.Goals as goal
 
 pub returns-clause-after : goal.returns-clause-after
 unfolding passed
 returns-clause-after c =
+    let u = c.args.self.now in
+    let ticked : c.fold-ticked.result ≡ flags (ticks_within c.args.n) u.timers
+    = flags_of_fold (ticks_within c.args.n) u.timers c.fold-ticked.ensures.ran (YieldsList-from_rev_slice u.timers cc) (λ a x b q k. search rules) (omega arith) in
     rw (
-      mapped (steps clocked c.args.n) c.map-self-2.ensures.items (search rules) (λ x y q k. search rules),
-      mapped (loaded (ticks_within c.args.n) c.args.self.now.timers) c.map-self.ensures.items (search rules) (λ x y q k. search rules),
-      word_mapped (ticks_within c.args.n) c.map.ensures.items (search rules) (λ t b q k. search rules) c.word_of-ticked.ensures,
+      c.update.ensures (loaded (ticks_within c.args.n) u.timers) (λ x y k. search rules),
+      c.update-2.ensures (steps clocked c.args.n) (λ x y k. search rules),
+      ticked,
     )
 
 pub returns-clause-value : goal.returns-clause-value
 unfolding raise
 returns-clause-value c =
+    let u = c.args.self.now in
     c.raised.ensures
     ∙ ap (λ word. if nat_lt 0 word then 8 else 0)
-    (word_mapped (ticks_within c.args.n) c.map.ensures.items (search rules) (λ t b q k. search rules) c.word_of-ticked.ensures)
+    (flags_of_fold (ticks_within c.args.n) u.timers c.fold-ticked.ensures.ran (YieldsList-from_rev_slice u.timers cc) (λ a x b q k. search rules) (omega arith))
